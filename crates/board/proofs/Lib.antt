@@ -1,0 +1,4 @@
+pub mod Rereads
+pub mod Changes
+mod Drives
+mod Tables

@@ -1,0 +1,4 @@
+pub mod Boards
+pub mod Changes
+pub mod Drives
+pub mod Tables

@@ -1,0 +1,4 @@
+pub mod Digits
+pub mod Placed
+pub mod SameId
+pub mod SameBytes

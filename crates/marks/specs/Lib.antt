@@ -1,0 +1,4 @@
+pub mod Marking
+pub mod View
+pub mod Written
+pub mod Lawful

@@ -1,0 +1,7 @@
+mod Stepped
+mod Words
+mod Buffers
+mod ItemLists
+mod Frames
+pub mod RequestsBack
+pub mod MessagesBack
