@@ -6,7 +6,7 @@ ghost use lib.Dec.{eqb};
 ghost use lib.ListN.{length};
 ghost use Rattle.event.specs.Refusals.{firstNo};
 ghost use Rattle.list.specs.View.{listingIf};
-ghost use Rattle.wire.specs.Laws.{Only-event, Only-answer};
+ghost use Rattle.wire.specs.Laws.{Only-event, Only-answer, Syncs-read-back, Acks-read-back};
 ghost use Rattle.wire.specs.Messages.{readFramed, readEvent, readAnswer, slotOf};
 ghost use Rattle.wire.specs.Requests.{enableQuestions, requestQuestions, readAs, readRequest};
 ghost use Rattle.wire.specs.View.{readsBy, eventIn, answerIn, requestIn};
@@ -85,9 +85,12 @@ fn read_framed<'a>(head: &[u8], bytes: &'a [u8]) -> Option<ListRead<'a>>
     read_list(&bytes[start..end])
 }
 
-/// Reads a request, of any length and content. The first question that is answered no is the refusal.
+/// Reads a request, of any length and content. The first question that is answered no is the refusal. What the book writes is
+/// accepted, and read as it was meant.
 pub fn read_request<'a>(bytes: &'a [u8]) -> Result<Message<'a>, Refusal>
-    ensures { λ r. ⌜ readsBy r ≡ requestIn (readRequest (now (bytes .entry))) ⌝ }
+    ensures said { λ r. ⌜ readsBy r ≡ requestIn (readRequest (now (bytes .entry))) ⌝ }
+    ensures syncs { λ _. ⌜ Syncs-read-back ⌝ }
+    ensures acks { λ _. ⌜ Acks-read-back ⌝ }
 {
     read_asked(bytes)
 }
