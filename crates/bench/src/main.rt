@@ -1,5 +1,6 @@
 //! The bench. For now it writes each kind of message, reads it back and says in words what it says, and shows why a damaged
-//! copy is refused; then it lays an event message on each carrier, and sets readings on each board.
+//! copy is refused; it lays an event message on each carrier, and sets readings on each board; then it runs a week at the
+//! drive's side and prints its record.
 use board::Board;
 use board::drive::DriveBoard;
 use board::drive::DriveSources;
@@ -7,6 +8,7 @@ use board::table::TableBoard;
 use board::table::TableSources;
 use carrier::mailbox::Mailbox;
 use carrier::mailbox::MailboxCarrier;
+use drive::run_week;
 use event::delay::Seconds;
 use event::delay::Tenths;
 use event::id::UniqueId;
@@ -34,7 +36,9 @@ use wire::request::write_sync;
 use wire::types::Item;
 use wire::types::Message;
 
+mod drive;
 mod hex;
+mod record;
 mod report;
 mod transport;
 
@@ -89,6 +93,8 @@ fn run(rt: &LibcRuntime) -> Result<(), AnyError> {
         .min(4111);
     show_carriers(rt, &buffer[0..message])?;
     show_boards(rt, &mut drive)?;
+    println!(rt, "A week at the drive's side:")?;
+    run_week(rt)?;
     Ok(())
 }
 

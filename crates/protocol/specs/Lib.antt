@@ -1,0 +1,9 @@
+pub mod Endpoint
+pub mod Book
+pub mod Pair
+pub mod History
+pub mod Masking
+pub mod Promise
+pub mod Runs
+pub mod Cases
+pub mod Refused
