@@ -11,7 +11,6 @@ use lib.ListN.{length, drop, take}
 use Rattle.std.proofs.shelf.Lists.{drop-all, take-all}
 use Rattle.std.proofs.shelf.Tests.{eq-eqb, ne-eqb}
 use Rattle.std.proofs.shelf.Ways.{eqb-tells}
-use Rattle.std.specs.declared.option.Option.{Option}
 use Rattle.std.specs.declared.option.Option.the-variants.{None, Some}
 use Rattle.event.specs.declared.id.UniqueId.{UniqueId}
 use Rattle.event.specs.Bytes.{Bytes}

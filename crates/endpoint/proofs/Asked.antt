@@ -1,11 +1,9 @@
 -- What a request comes to, once it is read. Assumes nothing.
 use mathlib.Core.Path.{_≡_, refl, sym, ap, subst, _∙_}
-use mathlib.Core.Bool.{Bool, true, false, cond}
+use mathlib.Core.Bool.{Bool, false, cond}
 use mathlib.Core.List.{List, [], _∷_}
 use Prim.Native.Nat.{ℕ, suc, _≤_}
 use native.Mathlib.Omega.{arith}
-use lib.Dec.{leb}
-use lib.ListN.{length}
 use Rattle.std.proofs.shelf.Tests.{le-leb}
 use Rattle.std.specs.declared.option.Option.{Option}
 use Rattle.std.specs.declared.option.Option.the-variants.{None, Some}
@@ -15,13 +13,13 @@ use Rattle.event.specs.declared.id.UniqueId.{UniqueId}
 use Rattle.event.specs.declared.refusal.Refusal.{Refusal}
 use Rattle.event.specs.declared.refusal.Refusal.the-variants.{AnswerBufferShort}
 use Rattle.event.specs.Bytes.{Bytes}
-use Rattle.event.specs.Outcomes.{Gives, refusal}
+use Rattle.event.specs.Outcomes.{refusal}
 use Rattle.board.specs.Boards.{Sources}
 use Rattle.list.specs.Lists.{body, over}
 use Rattle.marks.specs.Marking.{unmarked, listedFrom, occurrences}
 use Rattle.carrier.specs.Carriers.{Line}
 use Rattle.wire.specs.Requests.{Request, requestRefusal, requestOf, readAs, readRequest}
-use Rattle.wire.specs.View.{Read, request as requestRead, requestIn}
+use Rattle.wire.specs.View.{request as requestRead, requestIn}
 use Rattle.protocol.specs.Endpoint.{Endpoint, Turn, turn, handle, requested, request}
 use Rattle.endpoint.specs.View.{Turned}
 

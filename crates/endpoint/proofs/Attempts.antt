@@ -1,8 +1,8 @@
 -- What a writer leaves in a buffer that has the room. Assumes nothing.
-use mathlib.Core.Path.{_≡_, refl, sym, ap, subst, _∙_}
-use mathlib.Core.Bool.{Bool, true, cond}
-use mathlib.Core.List.{List, [], _∷_, _++_}
-use Prim.Native.Nat.{ℕ, _+_, _-_, _≤_}
+use mathlib.Core.Path.{_≡_, ap, subst, _∙_}
+use mathlib.Core.Bool.{Bool, cond}
+use mathlib.Core.List.{[], _∷_}
+use Prim.Native.Nat.{ℕ, _-_, _≤_}
 use native.Mathlib.Omega.{arith}
 use lib.Dec.{leb}
 use lib.ListN.{length, take, drop, length-drop}
@@ -14,7 +14,7 @@ use Rattle.std.specs.declared.result.Result.the-variants.{Ok}
 use Rattle.event.specs.Bytes.{Bytes}
 use Rattle.event.specs.declared.refusal.Refusal.{Refusal}
 use Rattle.event.specs.Refusals.{ask, firstNo}
-use Rattle.event.specs.Outcomes.{done, unless, overFront, Gives}
+use Rattle.event.specs.Outcomes.{done, unless, Gives}
 
 -- with the room, the writer gives the message
 pub room-given : (needed : ℕ) (short : Refusal) (m before after : Bytes) (r : Result ℕ Refusal) → needed ≤ length before

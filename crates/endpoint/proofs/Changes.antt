@@ -2,7 +2,7 @@
 use mathlib.Core.Path.{_≡_, refl, sym, ap, _∙_}
 use mathlib.Core.Bool.{Bool, true, false, cond}
 use mathlib.Core.List.{List, [], _∷_}
-use Prim.Native.Nat.{ℕ, zero, suc, _<_, _≤_}
+use Prim.Native.Nat.{ℕ, zero, suc, _<_}
 use native.Mathlib.Omega.{arith}
 use lib.Dec.{leb}
 use lib.ListN.{length}
@@ -13,7 +13,7 @@ use Rattle.std.specs.declared.result.Result.the-variants.{Ok, Err}
 use Rattle.event.specs.declared.id.UniqueId.{UniqueId}
 use Rattle.event.specs.declared.refusal.Refusal.the-variants.{NoSuchPlace, UnlawfulReading}
 use Rattle.event.specs.Bytes.{Bytes}
-use Rattle.event.specs.Outcomes.{Outcome, done, refusal}
+use Rattle.event.specs.Outcomes.{done, refusal}
 use Rattle.event.specs.Sources.{lawfulReading}
 use Rattle.board.specs.Boards.{Sources, ids, at, lawfulBoard, lawfulIf, takes, reread, afterSet}
 use Rattle.list.proofs.Back.{reading-short}

@@ -1,4 +1,4 @@
-use mathlib.Core.Path.{_≡_, refl, sym, ap, _∙_}
+use mathlib.Core.Path.{_≡_, ap, _∙_}
 use mathlib.Core.Bool.{Bool, cond}
 use Rattle.event.specs.Bytes.{Bytes}
 use Rattle.event.specs.View.{held}
@@ -21,17 +21,20 @@ mark-requires g c κs = place-below _ _ (c .in-Some .id) (g .B·Board·met .lawf
 
 pub returns-then-has : need.returns-then-has
 returns-then-has g c =
+    let told = g .B·Board .told (c .args .board .now) in
     let e = asEndpoint (c .args .self .now) in
     let place = c .args .place in
     let r = c .args .reading .now in
-    taken _ _ _ (c .in-Some .id) e (c .in-Some .ensures tt) _ _ (c .if-not-set .ensures tt .taken)
-    (c .mark .ensures ∙ ap (λ (k : Bytes). mark (e .state) place k e) (kept-is r (held (c .in-Some-new .kept)) (c .in-Some-new .ensures tt))
-    ∙ ap (λ (b : Bool). cond b (mark (e .state) place r e) e) (c .if-has .ensures tt))
-    (c .if-not-set .ensures tt .after)
+    let marks : asEndpoint (c .mark .last .self) ≡ mark (e .state) place r e =
+    c .mark .ensures ∙ ap (λ (k : Bytes). mark (e .state) place k e) (kept-is r (held (c .in-Some-new .kept)) (c .in-Some-new .ensures tt)) in
+    taken told place r (c .in-Some .id) e (c .in-Some .ensures tt) (asEndpoint (c .mark .last .self)) (g .B·Board .told (c .set .last .self)) (c .if-not-set .ensures tt .taken)
+    (marks ∙ ap (λ (b : Bool). cond b (mark (e .state) place r e) e) (c .if-has .ensures tt)) (c .if-not-set .ensures tt .after)
 
 pub returns-else-has : need.returns-else-has
 returns-else-has g c =
+    let told = g .B·Board .told (c .args .board .now) in
     let e = asEndpoint (c .args .self .now) in
-    taken _ _ _ (c .in-Some .id) e (c .in-Some .ensures tt) _ _ (c .if-not-set .ensures tt .taken)
-    (ap (λ (b : Bool). cond b (mark (e .state) (c .args .place) (c .args .reading .now) e) e) (c .if-has .ensures tt))
-    (c .if-not-set .ensures tt .after)
+    let place = c .args .place in
+    let r = c .args .reading .now in
+    taken told place r (c .in-Some .id) e (c .in-Some .ensures tt) e (g .B·Board .told (c .set .last .self)) (c .if-not-set .ensures tt .taken)
+    (ap (λ (b : Bool). cond b (mark (e .state) place r e) e) (c .if-has .ensures tt)) (c .if-not-set .ensures tt .after)

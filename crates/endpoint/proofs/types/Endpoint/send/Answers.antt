@@ -1,16 +1,14 @@
-use mathlib.Core.Path.{_≡_, refl, sym, ap, _∙_}
-use Prim.Native.Nat.{ℕ, _-_, _≤_}
+use mathlib.Core.Path.{_≡_, ap, _∙_}
+use Prim.Native.Nat.{_≤_}
 use native.Mathlib.Omega.{arith}
-use lib.ListN.{length, take}
+use lib.ListN.{length}
 use borrow.Author.Needs.{needs}
 use Rattle.std.specs.declared.result.Result.the-variants.{Ok}
 use Rattle.event.specs.declared.refusal.Refusal.the-variants.{TickBufferShort}
-use Rattle.event.specs.Bytes.{Bytes}
 use Rattle.board.specs.Boards.{ids}
 use Rattle.carrier.specs.Carriers.{takes, afterPut}
 use Rattle.protocol.specs.Endpoint.{messageOf}
 use Rattle.endpoint.specs.View.{asEndpoint}
-use Rattle.endpoint.specs.Sending.{sending}
 use Rattle.endpoint.proofs.Attempts.{room-given, count-is, count-fits, front-is}
 use Rattle.endpoint.proofs.types.Endpoint.send.Needs as need
 
