@@ -1,0 +1,5 @@
+pub mod Rows
+pub mod Fresh
+pub mod Questions
+pub mod Answered
+pub mod Picked
