@@ -1,6 +1,8 @@
 //! The bench. For now it writes each kind of message, reads it back and says in words what it says, and shows why a damaged
 //! copy is refused; it lays an event message on each carrier, and sets readings on each board; then it runs a week at the
 //! drive's side and prints its record.
+#![tactic(auto)]
+
 use board::Board;
 use board::drive::DriveBoard;
 use board::table::TableBoard;

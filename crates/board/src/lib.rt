@@ -1,4 +1,6 @@
 //! Boards: the sources of a drive, by what they mean.
+#![tactic(auto)]
+
 pub mod change;
 pub mod drive;
 mod status;

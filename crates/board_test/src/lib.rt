@@ -1,4 +1,5 @@
 //! Sets on each board, and rows that make no board.
+#![tactic(auto)]
 
 #[cfg(test)]
 mod tests;

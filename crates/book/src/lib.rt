@@ -1,4 +1,6 @@
 //! The book: the manager's end, which keeps the readings that an endpoint tells.
+#![tactic(auto)]
+
 pub mod calls;
 mod enter;
 pub mod parts;

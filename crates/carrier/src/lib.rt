@@ -1,4 +1,6 @@
 //! Carriers: what takes a message from one end to the other, by what it means.
+#![tactic(auto)]
+
 ghost use Rattle.std.specs.Prelude.{◌≡◌, true, length};
 ghost use Rattle.carrier.specs.Carriers.{Line, takes, after_put, withdrawn, linked_up, linked_down, fetched, fetched_into, lying_fits, message_fits};
 

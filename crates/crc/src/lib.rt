@@ -1,4 +1,6 @@
 //! The two cyclic redundancy checks of the carriers: CRC-32C and CRC-8.
+#![tactic(auto)]
+
 ghost use Rattle.std.specs.Prelude.{◌≡◌, fold};
 ghost use Rattle.crc.specs.Crc.{byte_step, byte_step8, crc32c as crc32c_of, crc8 as crc8_of};
 

@@ -1,4 +1,6 @@
 //! What a sync enables: its items switch events on and off, and its answer lists the sources that are enabled then.
+#![tactic(auto)]
+
 ghost use Rattle.std.specs.Prelude.{◌≡◌};
 ghost use Rattle.board.specs.Boards.{ids};
 ghost use Rattle.marks.specs.View.{marks_of};

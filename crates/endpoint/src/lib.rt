@@ -1,4 +1,6 @@
 //! The drive's end: it marks what changes, tells it in event messages, and answers requests.
+#![tactic(auto)]
+
 mod ack;
 mod change;
 mod readers;

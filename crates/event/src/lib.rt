@@ -1,4 +1,6 @@
 //! Events, their sources and readings, and the refusals of every call.
+#![tactic(auto)]
+
 pub mod delay;
 pub mod enabled;
 pub mod id;

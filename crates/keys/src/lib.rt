@@ -1,4 +1,6 @@
 //! The search for a key in a row of keys: one text for every kind of key.
+#![tactic(auto)]
+
 ghost use Rattle.std.specs.Prelude.{◌≡◌, Bool};
 ghost use Rattle.std.specs.declared.cmp.Ordering.TheVariants.{Less};
 ghost use Rattle.std.specs.declared.cmp.Ordering.{Ordering};

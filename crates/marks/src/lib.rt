@@ -1,4 +1,6 @@
 //! Marks, and the writer of the list of marked sources.
+#![tactic(auto)]
+
 mod bytes;
 mod marking;
 pub mod types;

@@ -1,4 +1,5 @@
 //! The packets of three messages against bytes that another program computed from the format alone.
+#![tactic(auto)]
 
 #[cfg(test)]
 mod tests {

@@ -1,4 +1,6 @@
 //! The two ends on one board and one carrier: every call as data, and whole runs of calls.
+#![tactic(auto)]
+
 pub mod call;
 mod manage;
 mod manager;

@@ -1,4 +1,6 @@
 //! The promises of a pair of an endpoint and a book, each proved of the rules of both.
+#![tactic(auto)]
+
 ghost use Rattle.protocol.specs.Cases.{WorkedCases, ChangeIsShown, TwoPasts};
 ghost use Rattle.protocol.specs.Promise.{BookShowsPresent, BookShowsWhatWas, SyncStartsAnew};
 ghost use Rattle.protocol.specs.Refused.{RefusalsLeave};

@@ -1,4 +1,6 @@
 //! Scripts: a line is turned into a command.
+#![tactic(auto)]
+
 mod action;
 pub mod command;
 mod items;

@@ -1,4 +1,6 @@
 //! The SMBus carrier: it keeps the packets of a message.
+#![tactic(auto)]
+
 mod bus;
 mod calls;
 mod packet;

@@ -1,4 +1,6 @@
 //! Holds both cyclic redundancy checks to published vectors, and says of each whether it agrees.
+#![tactic(auto)]
+
 mod published;
 mod vector;
 

@@ -1,4 +1,6 @@
 //! The four messages: writers and readers.
+#![tactic(auto)]
+
 mod check;
 pub mod items;
 pub mod message;

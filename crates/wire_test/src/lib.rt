@@ -1,5 +1,6 @@
 //! Messages and lists against bytes that were worked out by hand from the formats, and malformed ones against the refusal
 //! that each must get.
+#![tactic(auto)]
 
 #[cfg(test)]
 mod tests {

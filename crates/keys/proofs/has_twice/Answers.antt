@@ -13,14 +13,14 @@ searched {i} {x} keys r same test inside is sought e =
     ∙ ap (λ k. among same k rest || twice same rest) (sym is)
     ∙ ap (λ b. b || twice same rest) (sought_among same test rest x r (subst (λ row. Sought row x r) (take_rest keys (i + 1)) sought) ∙ sym e)
 
-pub returns-then-is-some : goal.returns-then-is-some
-returns-then-is-some g c = λ same test.
-    sym (searched c.args.keys.now c.find.result same test c.loop-i-test.true c.index-keys-i.is c.find.ensures c.if-is-some.ensures)
+pub returns-then-is_some : goal.returns-then-is_some
+returns-then-is_some g c = λ same test.
+    sym (searched c.args.keys.now c.find.result same test c.loop-i-test.true c.index-keys-i.is c.find.ensures c.if-is_some.ensures)
     ∙ c.loop-i.invariant same test
 
 pub loop-i-preserved : goal.loop-i-preserved
 loop-i-preserved g c = λ same test.
-    sym (searched c.args.keys.now c.find.result same test c.loop-i-test.true c.index-keys-i.is c.find.ensures c.if-is-some.ensures)
+    sym (searched c.args.keys.now c.find.result same test c.loop-i-test.true c.index-keys-i.is c.find.ensures c.if-is_some.ensures)
     ∙ c.loop-i.invariant same test
 
 pub returns : goal.returns

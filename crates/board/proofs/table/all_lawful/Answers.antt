@@ -15,13 +15,13 @@ next_row {i} {row} rows inside is e =
     ∙ ap (λ x. all_lawful (rows_told (x ∷ drop (i + 1) rows))) (sym is)
     ∙ ap (λ x. x && all_lawful (rows_told (drop (i + 1) rows))) (sym e)
 
-pub returns-then-not-is-lawful : goal.returns-then-not-is-lawful
-returns-then-not-is-lawful c =
-    sym (next_row c.args.rows.now c.loop-row-test.true c.row-item.is c.if-not-is-lawful.ensures) ∙ c.loop-row.invariant
+pub returns-then-not-is_lawful : goal.returns-then-not-is_lawful
+returns-then-not-is_lawful c =
+    sym (next_row c.args.rows.now c.loop-row-test.true c.row-item.is c.if-not-is_lawful.ensures) ∙ c.loop-row.invariant
 
 pub loop-row-preserved : goal.loop-row-preserved
 loop-row-preserved c =
-    sym (next_row c.args.rows.now c.loop-row-test.true c.row-item.is c.if-not-is-lawful.ensures) ∙ c.loop-row.invariant
+    sym (next_row c.args.rows.now c.loop-row-test.true c.row-item.is c.if-not-is_lawful.ensures) ∙ c.loop-row.invariant
 
 pub returns : goal.returns
 unfolding all_lawful

@@ -7,10 +7,10 @@ pub returns-in-err-front : goal.returns-in-err-front
 returns-in-err-front c =
     rw c.from-residual.ensures (body_without_front c.args.bytes.now (no_front c.args.bytes.now c.in-err-front.ensures))
 
-pub returns-then-not-in-form : goal.returns-then-not-in-form
-returns-then-not-in-form c =
-    body_not_in_form c.args.bytes.now (λ k. (c.type-inv.bytes k).fits) c.in-ok-front.front c.in-ok-front.ensures (sym c.if-not-in-form.ensures)
+pub returns-then-not-in_form : goal.returns-then-not-in_form
+returns-then-not-in_form c =
+    body_not_in_form c.args.bytes.now (λ k. (c.type-inv.bytes k).fits) c.in-ok-front.front c.in-ok-front.ensures (sym c.if-not-in_form.ensures)
 
 pub returns : goal.returns
 returns c =
-    body_in_form c.args.bytes.now (λ k. (c.type-inv.bytes k).fits) c.in-ok-front.front c.in-ok-front.ensures (sym c.if-not-in-form.ensures)
+    body_in_form c.args.bytes.now (λ k. (c.type-inv.bytes k).fits) c.in-ok-front.front c.in-ok-front.ensures (sym c.if-not-in_form.ensures)

@@ -30,5 +30,5 @@ loop-occurrence-preserved c =
 
 pub returns : goal.returns
 returns c =
-    c.has-twice.ensures same_id same_id_test
+    c.has_twice.ensures same_id same_id_test
     ∙ ap (twice same_id) (gathered_all c.loop-occurrence.ids c.loop-occurrence.count (left c.args.list) (left c.loop-occurrence.occurrence-iterator) c.loop-occurrence.invariant.0 c.in-None.ensures.steps.0)

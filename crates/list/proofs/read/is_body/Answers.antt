@@ -21,4 +21,4 @@ loop-preserved c =
 pub returns : goal.returns
 returns c =
     let none : 0 ≡ c.args.number - c.loop.counter = omega arith in
-    c.is-empty.ensures ∙ sym (body-none c.loop.rest.now) ∙ ap (λ (k : ℕ). is_body k c.loop.rest.now) none ∙ c.loop.invariant
+    c.is_empty.ensures ∙ sym (body-none c.loop.rest.now) ∙ ap (λ (k : ℕ). is_body k c.loop.rest.now) none ∙ c.loop.invariant

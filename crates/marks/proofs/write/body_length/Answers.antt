@@ -14,7 +14,7 @@ pub overflow-add-n-in-Some : goal.overflow-add-n-in-Some
 overflow-add-n-in-Some g c =
     let told = g.B.Board.told c.args.board.now in
     let few = few_sources told (g.met.B.Board.lawful c.args.board.now) in
-    let size = ap length c.as-bytes.ensures in
+    let size = ap length c.as_bytes.ensures in
     let short = length-take-le c.in-Some.reading.len c.in-Some.reading.bytes (omega arith) in
     search rules
 
@@ -31,7 +31,7 @@ loop-place-preserved g c =
           let step = ap length (rest-marked us m i u.0 r u.1 (sym w.in-Some.ensures)) in
           let long = simp length-append at step in
           let size = length-occurrence (occurrence u.0 r) in
-          let part = ap length w.as-bytes.ensures in
+          let part = ap length w.as_bytes.ensures in
           let few : length r ≡ w.in-Some.reading.len = length-take-le _ _ (omega arith) in
           (omega (arith, w.n-is), omega (arith, w.n-is))
       | in-default w ↦

@@ -11,8 +11,8 @@ use Rattle.marks.proofs.Listing.{rest, rest-marked, rest-unmarked, rest_end}
 use Rattle.marks.proofs.write.put_body.Goals as goal
 use Rattle.marks.proofs.write.put_body.Goals.{in-Some+in-Some-id, in-Some+in-default-id, in-default}
 
-pub put-occurrence-at-requires : goal.put-occurrence-at-requires
-put-occurrence-at-requires g c =
+pub put_occurrence-at-requires : goal.put_occurrence-at-requires
+put_occurrence-at-requires g c =
     let us = ids (g.B.Board.told c.args.board.now) in
     let step = ap length (rest-marked us (marks_of c.args.marks.now) c.loop-place.place c.in-Some-id.id (held c.in-Some.reading) (sym c.in-Some-id.ensures) (sym c.in-Some.ensures)) in
     let long = simp length-append at step in
@@ -31,7 +31,7 @@ loop-place-preserved g c =
           let u = w.in-Some-id.id in
           let step = rest-marked us m i u r (sym w.in-Some-id.ensures) (sym w.in-Some.ensures) in
           let long = simp length-append at (ap length step) in
-          let wrote = w.put-occurrence-at.ensures in
+          let wrote = w.put_occurrence-at.ensures in
           let is-out = w.out-is ∙ wrote.out in
           let is_at = w.at-is ∙ wrote.end in (
             (λ i. placed (is-out i) (is_at i) left) ∙ placed-placed c.loop-place.out c.loop-place.at (occurrence_bytes (occurrence u r)) left (omega arith) ∙ ap (placed c.loop-place.out c.loop-place.at) (sym step) ∙ c.loop-place.invariant.0,

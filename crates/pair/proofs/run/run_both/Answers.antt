@@ -21,6 +21,6 @@ returns g c =
     let q = pair_in g.D.Board.told g.E.Carrier.carried c.args.other.now in
     let enough : (leb (length c.args.tasks.now) (length c.args.first.now) && leb (length c.args.tasks.now) (length c.args.second.now)) ≡ true = search rules in
     let all = ap (λ (b : Bool). cond b c.args.tasks.now []) enough in
-    let one = ran_as p _ _ _ _ _ all c.run-all.ensures in
-    let other = ran_as q _ _ _ _ _ all c.run-all-2.ensures in
+    let one = ran_as p _ _ _ _ _ all c.run_all.ensures in
+    let other = ran_as q _ _ _ _ _ all c.run_all-2.ensures in
     record { done = sym enough; one = one; other = other; alike = go_on p q (recordable_twice c.args.tasks.now c.args.first.now c.args.second.now) _ _ one.pair other.pair; anew = anew }

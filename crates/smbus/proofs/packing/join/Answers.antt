@@ -23,8 +23,8 @@ loop-packet-preserved c =
     ∙ payloads-push (stored i row) (held p)
     ∙ ap (λ (b : Bytes). front ++ b) (sym c.payload-payload.ensures.part) in (
       omega (arith, ap length more, length-append front part),
-      copied_more c.args.buffer.now c.loop-packet.buffer front part c.copy-from-slice.new.self c.loop-packet.at _
-          c.loop-packet.invariant.1 c.loop-packet.invariant.0 c.copy-from-slice.ensures.after (omega arith)
+      copied_more c.args.buffer.now c.loop-packet.buffer front part c.copy_from_slice.new.self c.loop-packet.at _
+          c.loop-packet.invariant.1 c.loop-packet.invariant.0 c.copy_from_slice.ensures.after (omega arith)
           ∙ ap (placed c.args.buffer.now 0) (sym more),
       omega arith,
     )

@@ -13,9 +13,9 @@ loop-number-preserved c =
     let n = c.loop-number.number in
     let f = packet c.args.addresses (message_to c.args.destination c.args.message.now) in
     let lt : n < length c.loop-number.row = omega arith in
-    stored-set c.loop-number.row n c.packet-of.result lt
-    ∙ ap (λ (ps : List Bytes). ps ++ (held c.packet-of.result ∷ [])) c.loop-number.invariant
-    ∙ ap (λ (p : Bytes). map f (range_with_len 0 n) ++ (p ∷ [])) c.packet-of.ensures
+    stored-set c.loop-number.row n c.packet_of.result lt
+    ∙ ap (λ (ps : List Bytes). ps ++ (held c.packet_of.result ∷ [])) c.loop-number.invariant
+    ∙ ap (λ (p : Bytes). map f (range_with_len 0 n) ++ (p ∷ [])) c.packet_of.ensures
     ∙ sym (map-range_with_len_more f 0 n n (zero-add n))
 
 pub returns : goal.returns

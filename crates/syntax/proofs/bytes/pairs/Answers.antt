@@ -20,13 +20,13 @@ loop-rest-preserved c =
     (pushed ((c.in-Some.high * 16 + c.in-Some-digit.low) ∷ []) refl c.in-ok-push.was c.push.ensures.items)
     ∙ c.loop-rest.invariant
 
-pub returns-then-not-is-empty : goal.returns-then-not-is-empty
-returns-then-not-is-empty c =
+pub returns-then-not-is_empty : goal.returns-then-not-is_empty
+returns-then-not-is_empty c =
     let short : length c.loop-rest.rest.now < 2 = search rules in
-    let odd : length c.loop-rest.rest.now ≡ 1 = omega (arith, false-eqb _ 0 c.if-not-is-empty.ensures) in
+    let odd : length c.loop-rest.rest.now ≡ 1 = omega (arith, false-eqb _ 0 c.if-not-is_empty.ensures) in
     inr (sym c.loop-rest.invariant ∙ ap (after (vec_items c.loop-rest.bytes)) (pairs_odd c.loop-rest.rest.now odd))
 
 pub returns : goal.returns
 returns c =
-    let none : length c.loop-rest.rest.now ≡ 0 = true-eqb _ 0 c.if-not-is-empty.ensures in
+    let none : length c.loop-rest.rest.now ≡ 0 = true-eqb _ 0 c.if-not-is_empty.ensures in
     sym c.loop-rest.invariant ∙ ap (after (vec_items c.loop-rest.bytes)) (pairs_none c.loop-rest.rest.now none) ∙ after_all (vec_items c.loop-rest.bytes)

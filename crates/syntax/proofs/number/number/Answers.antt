@@ -4,7 +4,7 @@ use Rattle.syntax.proofs.number.number.Goals as goal
 
 pub returns-in-default : goal.returns-in-default
 returns-in-default c =
-    let some : 0 < length c.args.word.now = omega (arith, false-eqb _ 0 c.if-is-empty.ensures) in
+    let some : 0 < length c.args.word.now = omega (arith, false-eqb _ 0 c.if-is_empty.ensures) in
     record {
       is = sym (number_is c.args.base c.args.limit c.args.word.now some ∙ sym c.loop-byte.invariant.1 ∙ digit_none c.args.base c.args.limit c.loop-byte.value c.loop-byte.byte-index c.args.word.now c.loop-byte-test.true c.in-default.ensures);
       fits = tt;
@@ -17,7 +17,7 @@ loop-byte-preserved c =
 
 pub returns-then-value-over : goal.returns-then-value-over
 returns-then-value-over c =
-    let some : 0 < length c.args.word.now = omega (arith, false-eqb _ 0 c.if-is-empty.ensures) in
+    let some : 0 < length c.args.word.now = omega (arith, false-eqb _ 0 c.if-is_empty.ensures) in
     let over : c.args.limit < c.loop-byte.value = omega arith in
     record {
       is = sym (number_is c.args.base c.args.limit c.args.word.now some ∙ sym c.loop-byte.invariant.1 ∙ digits_all c.args.base c.args.limit c.loop-byte.value c.loop-byte.byte-index c.args.word.now c.loop-byte-test.false ∙ past_limit c.args.limit c.loop-byte.value over);
@@ -26,7 +26,7 @@ returns-then-value-over c =
 
 pub returns : goal.returns
 returns c =
-    let some : 0 < length c.args.word.now = omega (arith, false-eqb _ 0 c.if-is-empty.ensures) in
+    let some : 0 < length c.args.word.now = omega (arith, false-eqb _ 0 c.if-is_empty.ensures) in
     let under : c.loop-byte.value ≤ c.args.limit = omega (arith, c.if-value-over.false) in
     record {
       is = sym (number_is c.args.base c.args.limit c.args.word.now some ∙ sym c.loop-byte.invariant.1 ∙ digits_all c.args.base c.args.limit c.loop-byte.value c.loop-byte.byte-index c.args.word.now c.loop-byte-test.false ∙ within_limit c.args.limit c.loop-byte.value under);

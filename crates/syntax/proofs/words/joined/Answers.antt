@@ -8,11 +8,11 @@ returns-in-default c = let e : length c.args.words.now ≡ 0 = search rules in c
 pub loop-word-init : goal.loop-word-init
 loop-word-init c =
     let long : 1 ≤ length c.args.words.now = search rules in
-    spaced-start c.args.words.now _ (vec_items c.new-text.result) (vec_items c.extend-from-slice.new.self) long c.new-text.ensures.items c.in-ok-extend-from-slice.ensures.items
+    spaced-start c.args.words.now _ (vec_items c.new-text.result) (vec_items c.extend_from_slice.new.self) long c.new-text.ensures.items c.in-ok-extend_from_slice.ensures.items
 
 pub loop-word-preserved : goal.loop-word-preserved
 loop-word-preserved c =
-    led-turn _ _ c.loop-word.word-index _ _ _ c.loop-word-test.true c.in-ok-push.ensures.items c.in-ok-extend-from-slice-2.ensures.items
+    led-turn _ _ c.loop-word.word-index _ _ _ c.loop-word-test.true c.in-ok-push.ensures.items c.in-ok-extend_from_slice-2.ensures.items
     ∙ c.loop-word.invariant
 
 pub returns : goal.returns

@@ -4,5 +4,5 @@ use Rattle.syntax.proofs.words.keep.Goals as goal
 
 pub returns-in-ok-push : goal.returns-in-ok-push
 returns-in-ok-push c =
-    let some : 0 < length c.args.piece.now = omega (arith, false-eqb _ 0 c.if-not-is-empty.ensures) in
+    let some : 0 < length c.args.piece.now = omega (arith, false-eqb _ 0 c.if-not-is_empty.ensures) in
     keep_turn (vec_items c.args.words.now) (vec_items c.push.new.self) c.args.piece some c.in-ok-push.ensures.items

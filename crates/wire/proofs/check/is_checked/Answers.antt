@@ -14,8 +14,8 @@ pub returns : goal.returns
 returns c =
     let s = c.args.bytes.now in
     let n = length s - 4 in
-    let r = c.ends-with.result in
-    let e : c.to-le-bytes-word.result ≡ le32 (crc32c (take n s)) = c.to-le-bytes-word.ensures ∙ ap le32 (c.crc32c.ensures ∙ ap (λ (k : ℕ). crc32c (take k s)) (sub-zero n)) in
-    let h = ends_is Decides-eqb s c.to-le-bytes-word.result r c.ends-with.ensures.value in
+    let r = c.ends_with.result in
+    let e : c.to_le_bytes-word.result ≡ le32 (crc32c (take n s)) = c.to_le_bytes-word.ensures ∙ ap le32 (c.crc32c.ensures ∙ ap (λ (k : ℕ). crc32c (take k s)) (sub-zero n)) in
+    let h = ends_is Decides-eqb s c.to_le_bytes-word.result r c.ends_with.ensures.value in
     ends_checked r s
     (subst (λ (w : Bytes). (r ≡ true → s ≡ take (length s - length w) s ++ w) × ((front : Bytes) → s ≡ front ++ w → r ≡ true)) e h)

@@ -23,17 +23,17 @@ returns g c =
     let l = list_bytes 0 (told (occurrences (ids (g.B.Board.told c.args.board.now)) (marks_of c.args.marks.now))) in
     let head : Bytes = answer_head c.args.slot in
     let one = c.put-start.new.buffer in
-    let first : one ≡ placed d 0 head = c.put-start.ensures.buffer ∙ ap (placed d 0) c.answer-head.ensures in
+    let first : one ≡ placed d 0 head = c.put-start.ensures.buffer ∙ ap (placed d 0) c.answer_head.ensures in
     let same : length one ≡ length d = ap length first ∙ length-placed d 0 head (omega arith) in
     let part = take (length one - 8) (drop 8 one) in
     let room : 4103 ≤ length part = omega (arith, length-take (length one - 8) (drop 8 one), length-drop 8 one) in
     let wrote = c.in-Some.ensures.written in
     let n = wrote.counts.0 in
-    let end : c.put-start.result + c.in-Some.n ≡ length (head ++ l) = omega (arith, n, c.put-start.ensures.end, ap length c.answer-head.ensures, length-append head l) in
+    let end : c.put-start.result + c.in-Some.n ≡ length (head ++ l) = omega (arith, n, c.put-start.ensures.end, ap length c.answer_head.ensures, length-append head l) in
     let m = head ++ l in
     record {
-      wrote = room_gives 4115 AnswerBufferShort (answer_message c.args.slot (told (occurrences (ids (g.B.Board.told c.args.board.now)) (marks_of c.args.marks.now)))) d c.put-check.new.buffer c.put-check.result c.if-buffer-lt4115.false
-          (c.put-check.ensures.end ∙ (omega (arith, end, length-checked m)))
-          (message-written d head l one c.put-list.new.out c.put-check.new.buffer 8 _ refl first (written-buffer 4103 l part c.put-list.new.out _ wrote room) end c.put-check.ensures.buffer);
+      wrote = room_gives 4115 AnswerBufferShort (answer_message c.args.slot (told (occurrences (ids (g.B.Board.told c.args.board.now)) (marks_of c.args.marks.now)))) d c.put_check.new.buffer c.put_check.result c.if-buffer-lt4115.false
+          (c.put_check.ensures.end ∙ (omega (arith, end, length-checked m)))
+          (message-written d head l one c.put_list.new.out c.put_check.new.buffer 8 _ refl first (written-buffer 4103 l part c.put_list.new.out _ wrote room) end c.put_check.ensures.buffer);
       back = answers_read_back;
     }

@@ -32,8 +32,8 @@ returns g c =
     let end : c.put-start.result + c.in-Some.n ≡ length (head ++ l) = omega (arith, n, c.put-start.ensures.end, length-append head l) in
     let m = head ++ l in
     record {
-      wrote = room_gives 4111 TickBufferShort (event_message c.args.transmission (told (occurrences (ids (g.B.Board.told c.args.board.now)) (marks_of c.args.marks.now)))) d c.put-check.new.buffer c.put-check.result c.if-buffer-lt4111.false
-          (c.put-check.ensures.end ∙ (omega (arith, end, length-checked m)))
-          (message-written d head l one c.put-list.new.out c.put-check.new.buffer 4 _ refl first (written-buffer 4103 l part c.put-list.new.out _ wrote room) end c.put-check.ensures.buffer);
+      wrote = room_gives 4111 TickBufferShort (event_message c.args.transmission (told (occurrences (ids (g.B.Board.told c.args.board.now)) (marks_of c.args.marks.now)))) d c.put_check.new.buffer c.put_check.result c.if-buffer-lt4111.false
+          (c.put_check.ensures.end ∙ (omega (arith, end, length-checked m)))
+          (message-written d head l one c.put_list.new.out c.put_check.new.buffer 4 _ refl first (written-buffer 4103 l part c.put_list.new.out _ wrote room) end c.put_check.ensures.buffer);
       back = events_read_back;
     }

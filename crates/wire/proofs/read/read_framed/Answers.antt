@@ -10,18 +10,18 @@ returns-then-bytes-lt4 c = sym (too_short c.args.head.now c.args.bytes.now (omeg
 pub returns-then-end-start : goal.returns-then-end-start
 returns-then-end-start c = sym (too_short c.args.head.now c.args.bytes.now (omega arith))
 
-pub returns-then-not-starts-with : goal.returns-then-not-starts-with
-returns-then-not-starts-with c =
-    let starts = starting _ c.args.head.now c.args.bytes.now (slice_eq-Decides Decides-eqb _ _ _ c.starts-with.ensures.value) in
-    sym (not_starting c.args.head.now c.args.bytes.now (sym starts ∙ c.if-not-starts-with.true))
+pub returns-then-not-starts_with : goal.returns-then-not-starts_with
+returns-then-not-starts_with c =
+    let starts = starting _ c.args.head.now c.args.bytes.now (slice_eq-Decides Decides-eqb _ _ _ c.starts_with.ensures.value) in
+    sym (not_starting c.args.head.now c.args.bytes.now (sym starts ∙ c.if-not-starts_with.true))
 
-pub returns-then-not-is-checked : goal.returns-then-not-is-checked
-returns-then-not-is-checked c =
-    let starts = starting _ c.args.head.now c.args.bytes.now (slice_eq-Decides Decides-eqb _ _ _ c.starts-with.ensures.value) in
-    sym (not_checked c.args.head.now c.args.bytes.now (sym starts ∙ c.if-not-starts-with.false) (sym c.if-not-is-checked.ensures))
+pub returns-then-not-is_checked : goal.returns-then-not-is_checked
+returns-then-not-is_checked c =
+    let starts = starting _ c.args.head.now c.args.bytes.now (slice_eq-Decides Decides-eqb _ _ _ c.starts_with.ensures.value) in
+    sym (not_checked c.args.head.now c.args.bytes.now (sym starts ∙ c.if-not-starts_with.false) (sym c.if-not-is_checked.ensures))
 
 pub returns : goal.returns
 returns c =
-    let starts = starting _ c.args.head.now c.args.bytes.now (slice_eq-Decides Decides-eqb _ _ _ c.starts-with.ensures.value) in
-    c.read-list.ensures.listing
-    ∙ sym (the_list c.args.head.now c.args.bytes.now (sym starts ∙ c.if-not-starts-with.false) (sym c.if-not-is-checked.ensures) (omega arith))
+    let starts = starting _ c.args.head.now c.args.bytes.now (slice_eq-Decides Decides-eqb _ _ _ c.starts_with.ensures.value) in
+    c.read_list.ensures.listing
+    ∙ sym (the_list c.args.head.now c.args.bytes.now (sym starts ∙ c.if-not-starts_with.false) (sym c.if-not-is_checked.ensures) (omega arith))

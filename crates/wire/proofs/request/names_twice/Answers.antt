@@ -25,8 +25,8 @@ loop-i-preserved c =
       length-set row i x ∙ c.loop-i.invariant.1,
     )
 
-pub slice-bounds-has-twice-end : goal.slice-bounds-has-twice-end
-slice-bounds-has-twice-end c = omega (arith, c.loop-i.invariant.1)
+pub slice-bounds-has_twice-end : goal.slice-bounds-has_twice-end
+slice-bounds-has_twice-end c = omega (arith, c.loop-i.invariant.1)
 
 pub returns : goal.returns
 returns c =
@@ -34,5 +34,5 @@ returns c =
     let i = c.loop-i.i in
     let n = length-identifiers xs in
     let k : length xs - 0 ≡ i = omega arith in
-    c.has-twice.ensures eqb number_test
+    c.has_twice.ensures eqb number_test
     ∙ ap (twice eqb) (ap (λ (m : ℕ). take m c.loop-i.row) k ∙ c.loop-i.invariant.0 ∙ take_all i (identifiers xs) (omega arith))

@@ -24,11 +24,11 @@ returns-in-3 c = put_sets 3 3 _ c.in-3.is c.put-in-3.ensures.taken c.put-in-3.en
 
 pub returns-in-4 : goal.returns-in-4
 unfolding drive_sources takes at lawful_reading reread
-returns-in-4 c = empty_sets 4 c.in-4.is c.is-empty.ensures refl refl
+returns-in-4 c = empty_sets 4 c.in-4.is c.is_empty.ensures refl refl
 
 pub returns-in-5 : goal.returns-in-5
 unfolding drive_sources takes at lawful_reading reread
-returns-in-5 c = empty_sets 5 c.in-5.is c.is-empty-in-5.ensures refl refl
+returns-in-5 c = empty_sets 5 c.in-5.is c.is_empty-in-5.ensures refl refl
 
 pub returns-in-6 : goal.returns-in-6
 unfolding drive_sources takes at lawful_reading reread
@@ -48,7 +48,7 @@ returns-in-9 c = put_sets 9 255 _ c.in-9.is c.put-in-9.ensures.taken c.put-in-9.
 
 pub returns-in-10 : goal.returns-in-10
 unfolding drive_sources takes at lawful_reading reread
-returns-in-10 c = empty_sets 10 c.in-10.is c.is-empty-in-10.ensures refl refl
+returns-in-10 c = empty_sets 10 c.in-10.is c.is_empty-in-10.ensures refl refl
 
 pub returns-in-11 : goal.returns-in-11
 unfolding drive_sources takes at lawful_reading reread

@@ -30,29 +30,29 @@ returns-then-rows-lt1 c =
     let rows = c.args.rows.now in
     sym (ap (λ (o : Option Refusal). board_of o (rows_told rows)) (refuse_count (rows_told rows) (ap (within 1 64) (rows-length rows) ∙ outside (length rows) c.then-rows-lt1.either)))
 
-pub returns-then-not-all-lawful : goal.returns-then-not-all-lawful
-returns-then-not-all-lawful c =
+pub returns-then-not-all_lawful : goal.returns-then-not-all_lawful
+returns-then-not-all_lawful c =
     let rows = c.args.rows.now in
-    sym (ap (λ (o : Option Refusal). board_of o (rows_told rows)) (refuse_unlawful (rows_told rows) (counted rows (omega arith) (omega arith)) (sym c.if-not-all-lawful.ensures)))
+    sym (ap (λ (o : Option Refusal). board_of o (rows_told rows)) (refuse_unlawful (rows_told rows) (counted rows (omega arith) (omega arith)) (sym c.if-not-all_lawful.ensures)))
 
-pub returns-then-has-twice : goal.returns-then-has-twice
-returns-then-has-twice c =
+pub returns-then-has_twice : goal.returns-then-has_twice
+returns-then-has_twice c =
     let rows = c.args.rows.now in
-    let again = searched rows c.columns.result.0 c.columns.result.1 c.columns.ensures (c.if-has-twice.ensures same_id same_id_test) in
-    sym (ap (λ (o : Option Refusal). board_of o (rows_told rows)) (refuse_twice (rows_told rows) (counted rows (omega arith) (omega arith)) (sym c.if-not-all-lawful.ensures) again))
+    let again = searched rows c.columns.result.0 c.columns.result.1 c.columns.ensures (c.if-has_twice.ensures same_id same_id_test) in
+    sym (ap (λ (o : Option Refusal). board_of o (rows_told rows)) (refuse_twice (rows_told rows) (counted rows (omega arith) (omega arith)) (sym c.if-not-all_lawful.ensures) again))
 
 pub invariant-of-result : goal.invariant-of-result
 invariant-of-result c =
     let rows = c.args.rows.now in
-    let once = searched rows c.columns.result.0 c.columns.result.1 c.columns.ensures (c.if-has-twice.ensures same_id same_id_test) in
+    let once = searched rows c.columns.result.0 c.columns.result.1 c.columns.ensures (c.if-has_twice.ensures same_id same_id_test) in
     let told = columns_tell rows c.columns.result.0 c.columns.result.1 c.columns.ensures in
-    let lawful = rows-lawful (rows_told rows) (counted rows (omega arith) (omega arith)) (sym c.if-not-all-lawful.ensures) once in
+    let lawful = rows-lawful (rows_told rows) (counted rows (omega arith) (omega arith)) (sym c.if-not-all_lawful.ensures) once in
     (c.if-rows-gt64.false, (c.columns.ensures.names, (c.columns.ensures.readings, (ap lawful_board told ∙ lawful, tt))))
 
 pub returns : goal.returns
 returns c =
     let rows = c.args.rows.now in
-    let once = searched rows c.columns.result.0 c.columns.result.1 c.columns.ensures (c.if-has-twice.ensures same_id same_id_test) in
+    let once = searched rows c.columns.result.0 c.columns.result.1 c.columns.ensures (c.if-has_twice.ensures same_id same_id_test) in
     let told = columns_tell rows c.columns.result.0 c.columns.result.1 c.columns.ensures in
     ap Ok told
-    ∙ sym (ap (λ (o : Option Refusal). board_of o (rows_told rows)) (refuse_none (rows_told rows) (counted rows (omega arith) (omega arith)) (sym c.if-not-all-lawful.ensures) once))
+    ∙ sym (ap (λ (o : Option Refusal). board_of o (rows_told rows)) (refuse_none (rows_told rows) (counted rows (omega arith) (omega arith)) (sym c.if-not-all_lawful.ensures) once))

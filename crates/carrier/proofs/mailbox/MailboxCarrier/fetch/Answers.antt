@@ -19,6 +19,6 @@ returns c =
     record {
       result = sym (fetched_room line (length buffer) room ∙ ap count_of lies ∙ ap Ok long);
       buffer =
-          placed_copy buffer 0 _ c.copy-from-slice.new.self (take now.len now.bytes) (c.copy-from-slice.ensures.after ∙ ap (λ (k : ℕ). take k now.bytes) all) (all ∙ sym long)
+          placed_copy buffer 0 _ c.copy_from_slice.new.self (take now.len now.bytes) (c.copy_from_slice.ensures.after ∙ ap (λ (k : ℕ). take k now.bytes) all) (all ∙ sym long)
           ∙ sym (fetched_into_room line buffer room ∙ ap (λ m. copied m buffer) lies);
     }

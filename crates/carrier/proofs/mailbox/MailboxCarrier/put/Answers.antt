@@ -22,6 +22,6 @@ returns c =
     record {
       taken = sym taken;
       after =
-          ap (linked now.up) (kept_copy c.args.destination now.bytes c.copy-from-slice.new.self message (fits_length message fits).0 c.copy-from-slice.ensures.after)
+          ap (linked now.up) (kept_copy c.args.destination now.bytes c.copy_from_slice.new.self message (fits_length message fits).0 c.copy_from_slice.ensures.after)
           ∙ sym (put_taken line c.args.destination message taken);
     }

@@ -11,7 +11,7 @@ pub slice-bounds-put-end : goal.slice-bounds-put-end
 slice-bounds-put-end g c =
     let m = message_of (ids (g.B.Board.told c.args.board.now)) c.args.retries (as_endpoint c.args.self.now) in
     let before = c.args.buffer.now in
-    let after = c.write-event.new.buffer in
+    let after = c.write_event.new.buffer in
     let n = c.in-ok-count.count in
     let w = room_given 4111 TickBufferShort m before after (Ok n) (omega arith) c.in-ok-count.ensures.wrote in
     let same : length after ≡ length before = omega arith in
@@ -22,7 +22,7 @@ pub returns : goal.returns
 returns g c =
     let m = message_of (ids (g.B.Board.told c.args.board.now)) c.args.retries (as_endpoint c.args.self.now) in
     let before = c.args.buffer.now in
-    let after = c.write-event.new.buffer in
+    let after = c.write_event.new.buffer in
     let n = c.in-ok-count.count in
     let line = g.C.Carrier.carried c.args.carrier.now in
     let w = room_given 4111 TickBufferShort m before after (Ok n) (omega arith) c.in-ok-count.ensures.wrote in

@@ -3,7 +3,7 @@ use Rattle.event.proofs.key.UniqueIdKey.compare.Goals as goal
 
 pub returns : goal.returns
 returns c =
-    let identifier = c.cmp-by-identifier.ensures in
-    let scope = c.cmp-by-scope.ensures in
-    let info = c.cmp-by-info.ensures in
+    let identifier = c.cmp-by_identifier.ensures in
+    let scope = c.cmp-by_scope.ensures in
+    let info = c.cmp-by_info.ensures in
     cc

@@ -17,6 +17,6 @@ pub returns : goal.returns
 returns g c =
     let p = pair_in g.B.Board.told g.C.Carrier.carried c.args.self.now in
     let enough : leb (length c.args.tasks.now) (length c.args.records.now) ≡ true = search rules in
-    let ran = ran_as p _ _ _ _ _ (ap (λ (b : Bool). cond b c.args.tasks.now []) enough) c.run-all.ensures in
+    let ran = ran_as p _ _ _ _ _ (ap (λ (b : Bool). cond b c.args.tasks.now []) enough) c.run_all.ensures in
     let kept = keeps p _ (calls_in p (recordable c.args.tasks.now c.args.records.now)) ran.pair in
     record { done = sym enough; ran = ran; kept = kept; present = present; what_was = what_was }

@@ -21,10 +21,10 @@ pub returns-then-buffer-len : goal.returns-then-buffer-len
 returns-then-buffer-len c =
     let buffer = c.args.buffer.now in
     let row = c.stored-packets.result.now in
-    let bytes = c.as-bytes-bytes.result.now in
+    let bytes = c.as_bytes-bytes.result.now in
     let at =
     get_or-map held row c.args.number c.index-packets-number.result [] (omega arith)
-    ∙ sym (c.as-bytes-bytes.ensures ∙ ap held c.index-packets-number.is) in
+    ∙ sym (c.as_bytes-bytes.ensures ∙ ap held c.index-packets-number.is) in
     let none =
     ap (λ (ps : List Bytes). chosen ps c.args.number (length buffer)) (shown c.args.self.now row c.stored-packets.ensures)
     ∙ chosen-long (map held row) c.args.number (length buffer) bytes at (omega arith) in
@@ -34,16 +34,16 @@ pub returns : goal.returns
 returns c =
     let buffer = c.args.buffer.now in
     let row = c.stored-packets.result.now in
-    let bytes = c.as-bytes-bytes.result.now in
+    let bytes = c.as_bytes-bytes.result.now in
     let at =
     get_or-map held row c.args.number c.index-packets-number.result [] (omega arith)
-    ∙ sym (c.as-bytes-bytes.ensures ∙ ap held c.index-packets-number.is) in
+    ∙ sym (c.as_bytes-bytes.ensures ∙ ap held c.index-packets-number.is) in
     let fits =
     ap (λ (ps : List Bytes). chosen ps c.args.number (length buffer)) (shown c.args.self.now row c.stored-packets.ensures)
     ∙ chosen-fits (map held row) c.args.number (length buffer) bytes at (omega arith) in
     record {
       count = sym (ap length fits);
       buffer =
-          placed_copy buffer 0 _ c.copy-from-slice.new.self bytes c.copy-from-slice.ensures.after (omega arith)
+          placed_copy buffer 0 _ c.copy_from_slice.new.self bytes c.copy_from_slice.ensures.after (omega arith)
           ∙ sym (ap (placed buffer 0) fits);
     }

@@ -6,11 +6,11 @@ use Rattle.smbus.proofs.bus.SmbusCarrier.new.Goals as goal
 
 pub invariant-of-result : goal.invariant-of-result
 invariant-of-result c =
-    let a = addressed c.args.destination-address c.args.source-address c.args.source-id in
+    let a = addressed c.args.destination_address c.args.source_address c.args.source_id in
     ((omega arith, omega arith), (omega arith, (refl, (defined-none a 0, tt))))
 
 pub returns : goal.returns
 returns c =
-    let a = addressed c.args.destination-address c.args.source-address c.args.source-id in
+    let a = addressed c.args.destination_address c.args.source_address c.args.source_id in
     let low : low_addresses a ≡ true = and_from _ _ (lt-ltb a.destination 128 (omega arith)) (lt-ltb a.source 128 (omega arith)) in
     sym (cond-true (low_addresses a) _ _ low)
