@@ -3,9 +3,9 @@ use Rattle.board.specs.Drives.{new_drive}
 use Rattle.board.proofs.Drives.{new_lawful}
 use Rattle.board.proofs.drive.DriveBoard.new.Goals as goal
 
-pub invariant-of-result : goal.invariant-of-result
+pub invariant_of-result : goal.invariant_of-result
 unfolding new_drive
-invariant-of-result c = (new_lawful c.args.controller (omega arith), tt)
+invariant_of-result c = new_lawful c.args.controller (omega arith)
 
 pub returns : goal.returns
 unfolding new_drive

@@ -4,7 +4,7 @@ use Rattle.board.specs.Drives.{drive_sources}
 use Rattle.board.proofs.Rereads.{lawful-after}
 use Rattle.board.proofs.drive.DriveBoardBoard.set.Goals as goal
 
-pub invariant-of-self : goal.invariant-of-self
-invariant-of-self c =
+pub invariant_of-self : goal.invariant_of-self
+invariant_of-self c =
     let board = c.args.self.now in
-    (ap lawful_board c.set.ensures.leaves ∙ lawful-after (drive_sources board.status) c.args.place c.args.reading.now board.lawful, tt)
+    ap lawful_board c.set.ensures.leaves ∙ lawful-after (drive_sources board.status) c.args.place c.args.reading.now board.lawful

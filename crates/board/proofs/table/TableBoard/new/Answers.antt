@@ -41,13 +41,13 @@ returns-then-has_twice c =
     let again = searched rows c.columns.result.0 c.columns.result.1 c.columns.ensures (c.if-has_twice.ensures same_id same_id_test) in
     sym (ap (λ (o : Option Refusal). board_of o (rows_told rows)) (refuse_twice (rows_told rows) (counted rows (omega arith) (omega arith)) (sym c.if-not-all_lawful.ensures) again))
 
-pub invariant-of-result : goal.invariant-of-result
-invariant-of-result c =
+pub invariant_of-result : goal.invariant_of-result
+invariant_of-result c =
     let rows = c.args.rows.now in
     let once = searched rows c.columns.result.0 c.columns.result.1 c.columns.ensures (c.if-has_twice.ensures same_id same_id_test) in
     let told = columns_tell rows c.columns.result.0 c.columns.result.1 c.columns.ensures in
     let lawful = rows-lawful (rows_told rows) (counted rows (omega arith) (omega arith)) (sym c.if-not-all_lawful.ensures) once in
-    (c.if-rows-gt64.false, (c.columns.ensures.names, (c.columns.ensures.readings, (ap lawful_board told ∙ lawful, tt))))
+    record { few = c.if-rows-gt64.false; named = c.columns.ensures.names; read = c.columns.ensures.readings; lawful = ap lawful_board told ∙ lawful }
 
 pub returns : goal.returns
 returns c =

@@ -26,14 +26,14 @@ pub returns-in-default : goal.returns-in-default
 returns-in-default c =
     absurd (held-some c.args.reading.now (lawful-short _ c.args.reading.now (sym c.if-not-allows.ensures)) c.in-default.ensures)
 
-pub invariant-of-self : goal.invariant-of-self
-invariant-of-self c =
+pub invariant_of-self : goal.invariant_of-self
+invariant_of-self c =
     let t = c.args.self.now in
     let r = c.args.reading.now in
     let told = table_sources t.ids t.readings t.count in
     let set = table-set t.ids t.readings t.count c.args.place r _ c.in-Some.held (omega arith) (omega arith) (omega arith) c.if-not-allows.ensures c.in-Some.ensures in
     let lawful = ap lawful_board set.1 ∙ lawful-after told c.args.place r t.lawful in
-    (t.few, (t.named, (length-set t.readings c.args.place c.in-Some.held ∙ t.read, (lawful, tt))))
+    record { few = t.few; named = t.named; read = length-set t.readings c.args.place c.in-Some.held ∙ t.read; lawful = lawful }
 
 pub returns : goal.returns
 returns c =

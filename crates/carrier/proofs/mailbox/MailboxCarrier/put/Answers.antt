@@ -5,11 +5,11 @@ use Rattle.carrier.specs.Carriers.{linked, kept, message_fits, takes}
 use Rattle.carrier.proofs.Lines.{fits_length, put_taken, kept_copy}
 use Rattle.carrier.proofs.mailbox.MailboxCarrier.put.Goals as goal
 
-pub invariant-of-self : goal.invariant-of-self
-invariant-of-self c =
+pub invariant_of-self : goal.invariant_of-self
+invariant_of-self c =
     let fits : message_fits c.args.message.now ≡ true = cc in
     let size = fits_length c.args.message.now fits in
-    (omega arith, (search (rules, overwrites), tt))
+    record { short = omega arith; whole = search (rules, overwrites) }
 
 pub returns : goal.returns
 returns c =

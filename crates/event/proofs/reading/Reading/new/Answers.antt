@@ -3,8 +3,11 @@ use Rattle.std.proofs.lemmas.List.{take_at, length-append, length-replicate}
 use Rattle.std.proofs.lemmas.Bool.Decides.{nat_tests}
 use Rattle.event.proofs.reading.Reading.new.Goals as goal
 
-pub invariant-of-result : goal.invariant-of-result
-invariant-of-result c = (c.if-bytes-gt64.false, (ap length c.padded.ensures ∙ simp (length-append, length-replicate) (omega arith), tt))
+pub invariant_of-result : goal.invariant_of-result
+invariant_of-result c = record {
+  short = c.if-bytes-gt64.false;
+  whole = ap length c.padded.ensures ∙ simp (length-append, length-replicate) (omega arith);
+}
 
 pub returns : goal.returns
 returns c =

@@ -4,10 +4,10 @@ use Rattle.pair.specs.Runs.{call_for}
 use Rattle.pair.proofs.Parts.{part_long, part_steps, steps_note}
 use Rattle.pair.proofs.pair.Pair.work.Goals as goal
 
-pub invariant-of-log : goal.invariant-of-log
-invariant-of-log g c =
+pub invariant_of-log : goal.invariant_of-log
+invariant_of-log g c =
     let fits : c.lent-room.result - 0 ≤ length c.args.log.now.buffer = omega (arith, c.lent-room.ensures.fits, c.args.log.now.long) in
-    (part_long c.args.log.now.buffer c.step-reply.new.buffer (c.lent-room.result - 0) fits c.step-reply.auto.buffer ∙ c.args.log.now.long, tt)
+    part_long c.args.log.now.buffer c.step-reply.new.buffer (c.lent-room.result - 0) fits c.step-reply.auto.buffer ∙ c.args.log.now.long
 
 pub returns : goal.returns
 returns g c =

@@ -4,10 +4,10 @@ use Rattle.smbus.specs.Seen.{addressed, low_addresses}
 use Rattle.smbus.specs.Lying.{defined-none}
 use Rattle.smbus.proofs.bus.SmbusCarrier.new.Goals as goal
 
-pub invariant-of-result : goal.invariant-of-result
-invariant-of-result c =
+pub invariant_of-result : goal.invariant_of-result
+invariant_of-result c =
     let a = addressed c.args.destination_address c.args.source_address c.args.source_id in
-    ((omega arith, omega arith), (omega arith, (refl, (defined-none a 0, tt))))
+    record { low = (omega arith, omega arith); few = omega arith; whole = refl; defined = defined-none a 0 }
 
 pub returns : goal.returns
 returns c =

@@ -7,20 +7,17 @@ use Rattle.smbus.specs.Seen.{line_of}
 use Rattle.smbus.specs.Lying.{defined-packets, brought-packets}
 use Rattle.smbus.proofs.calls.SmbusCarrierCarrier.put.Goals as goal
 
-pub invariant-of-self : goal.invariant-of-self
-invariant-of-self c =
+pub invariant_of-self : goal.invariant_of-self
+invariant_of-self c =
     let s = c.args.self.now in
     let fits : message_fits c.args.message.now ≡ true = cc in
-    let size = fits_length c.args.message.now fits in (
-      s.low,
-      (
-        omega arith,
-        (
-          omega arith,
-          (defined-packets s.addresses c.args.destination c.args.message.now (stored c.split-self.result c.split-self.new.row) c.split-self.ensures.all, tt),
-        ),
-      ),
-    )
+    let size = fits_length c.args.message.now fits in
+    record {
+      low = s.low;
+      few = omega arith;
+      whole = omega arith;
+      defined = defined-packets s.addresses c.args.destination c.args.message.now (stored c.split-self.result c.split-self.new.row) c.split-self.ensures.all;
+    }
 
 pub returns : goal.returns
 returns c =

@@ -2,7 +2,7 @@ use Rattle.std.proofs.Common.{arith}
 use Rattle.smbus.specs.Lying.{defined-none}
 use Rattle.smbus.proofs.calls.SmbusCarrierCarrier.withdraw.Goals as goal
 
-pub invariant-of-self : goal.invariant-of-self
-invariant-of-self c =
+pub invariant_of-self : goal.invariant_of-self
+invariant_of-self c =
     let s = c.args.self.now in
     (s.low, (omega arith, (s.whole, (defined-none s.addresses s.destination, tt))))
