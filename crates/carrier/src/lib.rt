@@ -64,9 +64,9 @@ pub fn deliver<C: Carrier>(
     message: &[u8],
     buffer: &mut [u8],
 ) -> Result<usize, Refusal>
-    ensures after { carried carrier.new ≡ after_put (carried carrier.old) destination message.now }
-    ensures result { result ≡ fetched (after_put (carried carrier.old) destination message.now) (length buffer.old) }
-    ensures buffer { buffer.new ≡ fetched_into (after_put (carried carrier.old) destination message.now) buffer.old }
+    ensures after { C.Carrier.carried carrier.new ≡ after_put (C.Carrier.carried carrier.old) destination message.now }
+    ensures result { result ≡ fetched (after_put (C.Carrier.carried carrier.old) destination message.now) (length buffer.old) }
+    ensures buffer { buffer.new ≡ fetched_into (after_put (C.Carrier.carried carrier.old) destination message.now) buffer.old }
 {
     let _taken = carrier.put(destination, message);
     carrier.fetch(buffer)

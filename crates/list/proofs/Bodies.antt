@@ -106,14 +106,14 @@ regroup false u l = refl
 abbrev are_body : ℕ → Bytes → List Occurrence → Bool
 are_body n s os = eqb (length os) n && (same_bytes s (body os) && each_lawful os)
 
-is_body : (n : ℕ) (s : Bytes) (os : List Occurrence) → fronts n s ≡ os → is_body n s ≡ are_body n s os
+body_is : (n : ℕ) (s : Bytes) (os : List Occurrence) → fronts n s ≡ os → is_body n s ≡ are_body n s os
 unfolding is_body
-is_body n s os e = ap (are_body n s) e
+body_is n s os e = ap (are_body n s) e
 
 -- where no front stands, more occurrences do not
 pub body_without_front : (s : Bytes) → has_front s ≡ false → (n : ℕ) → is_body (suc n) s ≡ false
 body_without_front s e n =
-    is_body (suc n) s [] (fronts_end (suc n) s e) ∙ ap (λ (v : Bool). v && (same_bytes s (body []) && each_lawful [])) (eqb-zero-suc n)
+    body_is (suc n) s [] (fronts_end (suc n) s e) ∙ ap (λ (v : Bool). v && (same_bytes s (body []) && each_lawful [])) (eqb-zero-suc n)
 
 module _ (s : Bytes) (fit : Fit s) (f : Front) (begins : Begins s f) where
   in-form : in_form f ≡ (head_right s && lawful_occurrence (front s))
@@ -142,7 +142,7 @@ module _ (s : Bytes) (fit : Fit s) (f : Front) (begins : Begins s f) where
       let fs = fronts n rest in
       let o = front s in
       let less : suc n - 1 ≡ n = omega arith in
-      is_body (suc n) s (o ∷ fs) (fronts_more (suc n) s (omega arith) stands ∙ ap (λ (k : ℕ). o ∷ fronts k rest) less)
+      body_is (suc n) s (o ∷ fs) (fronts_more (suc n) s (omega arith) stands ∙ ap (λ (k : ℕ). o ∷ fronts k rest) less)
       ∙ ap (λ (v : Bool). v && (same_bytes s (occurrence_bytes o ++ body fs) && (lawful_occurrence o && each_lawful fs))) (eqb-suc-suc (length fs) n)
       ∙ ap (λ (v : Bool). eqb (length fs) n && (v && (lawful_occurrence o && each_lawful fs))) (same_front s fit begins.nine begins.whole (body fs))
       ∙ reorder (eqb (length fs) n) (head_right s) (same_bytes rest (body fs)) (lawful_occurrence o) (each_lawful fs)

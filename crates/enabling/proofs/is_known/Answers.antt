@@ -4,7 +4,7 @@ use Rattle.board.specs.Boards.{ids}
 use Rattle.board.proofs.Rereads.{length_ids}
 use Rattle.enabling.proofs.Present.{known_more, known_past, known_end}
 use Rattle.enabling.proofs.is_known.Goals as goal
-use Rattle.enabling.proofs.is_known.Goals.{in-Some+else-identifier-id, in-default}
+use Rattle.enabling.proofs.is_known.Goals.{in-Some+else-identifier-id, in_default}
 
 pub returns-then-identifier-id : goal.returns-then-identifier-id
 returns-then-identifier-id g c =
@@ -17,7 +17,7 @@ loop-place-preserved g c =
     let i = c.loop-place.place in
     elim c.match-id.branch [
       | in-Some+else-identifier-id w ↦ sym (known_more us i c.args.identifier w.in-Some.id false w.in-Some.ensures (ne_eqb _ _ w.if-identifier-id.false)) ∙ c.loop-place.invariant
-      | in-default w ↦ sym (known_past us i c.args.identifier w.in-default.ensures) ∙ c.loop-place.invariant
+      | in_default w ↦ sym (known_past us i c.args.identifier w.in_default.ensures) ∙ c.loop-place.invariant
     ]
 
 pub returns : goal.returns

@@ -6,7 +6,7 @@ use Rattle.marks.specs.View.{marks_of}
 use Rattle.board.proofs.Rereads.{few_sources}
 use Rattle.enabling.proofs.Present.{none_yet, all_among, shot_marked, shot_never, shot_off, shot_past}
 use Rattle.enabling.proofs.snapshot.Goals as goal
-use Rattle.enabling.proofs.snapshot.Goals.{in-Some+then-has+in-Some-reading, in-Some+then-has+in-default-reading, in-Some+else-has, in-default}
+use Rattle.enabling.proofs.snapshot.Goals.{in-Some+then-has+in-Some-reading, in-Some+then-has+in_default-reading, in-Some+else-has, in_default}
 
 pub loop-place-init : goal.loop-place-init
 loop-place-init g c = c.none-marks.ensures ∙ none_yet c.args.set (g.B.Board.told c.args.board.now)
@@ -23,9 +23,9 @@ loop-place-preserved g c =
           shot_marked set told i w.in-Some.id (held w.in-Some-reading.reading) m (marks_of c.match-id.marks)
           w.in-Some.ensures w.if-has.ensures w.in-Some-reading.ensures c.loop-place.invariant
           (ap marks_of w.marks-is ∙ w.mark.ensures.after ∙ ap (λ (b : Bool). cond b (update m i (Some (held w.in-Some-reading.reading))) m) (lt-ltb i 64 below))
-      | in-Some+then-has+in-default-reading w ↦ absurd (shot_never set told i w.in-Some.id w.in-Some.ensures w.in-default-reading.ensures)
+      | in-Some+then-has+in_default-reading w ↦ absurd (shot_never set told i w.in-Some.id w.in-Some.ensures w.in_default-reading.ensures)
       | in-Some+else-has w ↦ ap marks_of w.marks-is ∙ c.loop-place.invariant ∙ shot_off set told i w.in-Some.id w.in-Some.ensures w.if-has.ensures
-      | in-default w ↦ ap marks_of w.marks-is ∙ c.loop-place.invariant ∙ shot_past set told i w.in-default.ensures
+      | in_default w ↦ ap marks_of w.marks-is ∙ c.loop-place.invariant ∙ shot_past set told i w.in_default.ensures
     ]
 
 pub returns : goal.returns

@@ -17,4 +17,4 @@ loop-item-preserved g c =
     ∙ c.loop-item.invariant
 
 pub returns : goal.returns
-returns g c = item_end (ids (g.B.Board.told c.args.board.now)) (left c.loop-item.rest) c.loop-item.words c.in-default.ensures ∙ c.loop-item.invariant
+returns g c = item_end (ids (g.B.Board.told c.args.board.now)) (left c.loop-item.rest) c.loop-item.words c.in_default.ensures ∙ c.loop-item.invariant

@@ -3,14 +3,14 @@ use Rattle.list.proofs.Steps.{no_front}
 use Rattle.list.proofs.Bodies.{body_without_front, body_not_in_form, body_in_form}
 use Rattle.list.proofs.read.behind_lawful.Goals as goal
 
-pub returns-in-err-front : goal.returns-in-err-front
-returns-in-err-front c =
-    rw c.from-residual.ensures (body_without_front c.args.bytes.now (no_front c.args.bytes.now c.in-err-front.ensures))
+pub returns-in_err-front : goal.returns-in_err-front
+returns-in_err-front c =
+    rw c.from-residual.ensures (body_without_front c.args.bytes.now (no_front c.args.bytes.now c.in_err-front.ensures))
 
 pub returns-then-not-in_form : goal.returns-then-not-in_form
 returns-then-not-in_form c =
-    body_not_in_form c.args.bytes.now (λ k. (c.type-inv.bytes k).fits) c.in-ok-front.front c.in-ok-front.ensures (sym c.if-not-in_form.ensures)
+    body_not_in_form c.args.bytes.now (λ k. (c.type_inv.bytes k).fits) c.in_ok-front.front c.in_ok-front.ensures (sym c.if-not-in_form.ensures)
 
 pub returns : goal.returns
 returns c =
-    body_in_form c.args.bytes.now (λ k. (c.type-inv.bytes k).fits) c.in-ok-front.front c.in-ok-front.ensures (sym c.if-not-in_form.ensures)
+    body_in_form c.args.bytes.now (λ k. (c.type_inv.bytes k).fits) c.in_ok-front.front c.in_ok-front.ensures (sym c.if-not-in_form.ensures)

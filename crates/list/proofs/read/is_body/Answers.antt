@@ -6,11 +6,11 @@ use Rattle.list.proofs.read.is_body.Goals as goal
 pub loop-init : goal.loop-init
 loop-init c = let all : c.args.number - 0 ≡ c.args.number = omega arith in ap (λ (k : ℕ). is_body k c.args.bytes.now) all
 
-pub returns-in-default : goal.returns-in-default
-returns-in-default c =
+pub returns-in_default : goal.returns-in_default
+returns-in_default c =
     let left = c.args.number - (c.loop.counter + 1) in
     let more : c.args.number - c.loop.counter ≡ suc left = omega arith in
-    sym (sym c.loop.invariant ∙ ap (λ (k : ℕ). is_body k c.loop.rest.now) more ∙ c.in-default.ensures left)
+    sym (sym c.loop.invariant ∙ ap (λ (k : ℕ). is_body k c.loop.rest.now) more ∙ c.in_default.ensures left)
 
 pub loop-preserved : goal.loop-preserved
 loop-preserved c =

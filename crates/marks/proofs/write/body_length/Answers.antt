@@ -8,7 +8,7 @@ use Rattle.marks.specs.View.{marks_of}
 use Rattle.board.proofs.Rereads.{length_ids, few_sources, at-below}
 use Rattle.marks.proofs.Listing.{rest-marked, rest-unmarked, rest_end}
 use Rattle.marks.proofs.write.body_length.Goals as goal
-use Rattle.marks.proofs.write.body_length.Goals.{in-Some, in-default}
+use Rattle.marks.proofs.write.body_length.Goals.{in-Some, in_default}
 
 pub overflow-add-n-in-Some : goal.overflow-add-n-in-Some
 overflow-add-n-in-Some g c =
@@ -34,8 +34,8 @@ loop-place-preserved g c =
           let part = ap length w.as_bytes.ensures in
           let few : length r ≡ w.in-Some.reading.len = length-take-le _ _ (omega arith) in
           (omega (arith, w.n-is), omega (arith, w.n-is))
-      | in-default w ↦
-          let step = ap length (rest-unmarked us m i inside (sym w.in-default.ensures)) in
+      | in_default w ↦
+          let step = ap length (rest-unmarked us m i inside (sym w.in_default.ensures)) in
           (omega (arith, w.n-is), omega (arith, w.n-is))
     ]
 

@@ -9,7 +9,7 @@ use Rattle.marks.specs.View.{marks_of}
 use Rattle.board.proofs.Rereads.{length_ids, at-below}
 use Rattle.marks.proofs.Listing.{rest, rest-marked, rest-unmarked, rest_end}
 use Rattle.marks.proofs.write.put_body.Goals as goal
-use Rattle.marks.proofs.write.put_body.Goals.{in-Some+in-Some-id, in-Some+in-default-id, in-default}
+use Rattle.marks.proofs.write.put_body.Goals.{in-Some+in-Some-id, in-Some+in_default-id, in_default}
 
 pub put_occurrence-at-requires : goal.put_occurrence-at-requires
 put_occurrence-at-requires g c =
@@ -37,13 +37,13 @@ loop-place-preserved g c =
             (λ i. placed (is-out i) (is_at i) left) ∙ placed-placed c.loop-place.out c.loop-place.at (occurrence_bytes (occurrence u r)) left (omega arith) ∙ ap (placed c.loop-place.out c.loop-place.at) (sym step) ∙ c.loop-place.invariant.0,
             omega arith,
           )
-      | in-Some+in-default-id w ↦
+      | in-Some+in_default-id w ↦
           let p = at-below us i inside in
-          let none = w.in-default-id.ensures in
+          let none = w.in_default-id.ensures in
           let never : ◌≡◌ {A = ℕ} 0 1 = cc (none, p.1) in
           absurd (omega arith)
-      | in-default w ↦
-          let step = rest-unmarked us m i inside (sym w.in-default.ensures) in
+      | in_default w ↦
+          let step = rest-unmarked us m i inside (sym w.in_default.ensures) in
           let long = ap length step in
           let is-out = w.out-is in
           let is_at = w.at-is in

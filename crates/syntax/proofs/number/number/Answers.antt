@@ -2,11 +2,11 @@ use Rattle.std.proofs.Common.{◌≡◌, ◌+◌, ◌*◌, ◌<◌, ◌≤◌, m
 use Rattle.syntax.proofs.Values.{digit_more, digit_none, digits_all, within_limit, past_limit, number_is}
 use Rattle.syntax.proofs.number.number.Goals as goal
 
-pub returns-in-default : goal.returns-in-default
-returns-in-default c =
+pub returns-in_default : goal.returns-in_default
+returns-in_default c =
     let some : 0 < length c.args.word.now = omega (arith, false-eqb _ 0 c.if-is_empty.ensures) in
     record {
-      is = sym (number_is c.args.base c.args.limit c.args.word.now some ∙ sym c.loop-byte.invariant.1 ∙ digit_none c.args.base c.args.limit c.loop-byte.value c.loop-byte.byte-index c.args.word.now c.loop-byte-test.true c.in-default.ensures);
+      is = sym (number_is c.args.base c.args.limit c.args.word.now some ∙ sym c.loop-byte.invariant.1 ∙ digit_none c.args.base c.args.limit c.loop-byte.value c.loop-byte.byte-index c.args.word.now c.loop-byte-test.true c.in_default.ensures);
       fits = tt;
     }
 

@@ -3,9 +3,9 @@ use Rattle.wire.specs.Messages.{read_event}
 use Rattle.std.proofs.Common.{rules}
 use Rattle.wire.proofs.read.read_event.Goals as goal
 
-pub returns-in-default : goal.returns-in-default
+pub returns-in_default : goal.returns-in_default
 unfolding read_event
-returns-in-default c = record { said = search rules; only = only-event }
+returns-in_default c = record { said = search rules; only = only-event }
 
 pub returns : goal.returns
 unfolding read_event

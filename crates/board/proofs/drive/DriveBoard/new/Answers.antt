@@ -5,7 +5,7 @@ use Rattle.board.proofs.drive.DriveBoard.new.Goals as goal
 
 pub invariant_of-result : goal.invariant_of-result
 unfolding new_drive
-invariant_of-result c = new_lawful c.args.controller (omega arith)
+invariant_of-result c = record { lawful = new_lawful c.args.controller (omega arith) }
 
 pub returns : goal.returns
 unfolding new_drive

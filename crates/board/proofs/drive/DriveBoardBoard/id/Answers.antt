@@ -17,6 +17,6 @@ pub returns-in-11 : goal.returns-in-11
 unfolding drive_sources at
 returns-in-11 c = sym (ap (at (ids (drive_sources c.args.self.now.status))) c.in-11.is)
 
-pub returns-in-default : goal.returns-in-default
+pub returns-in_default : goal.returns-in_default
 unfolding drive_sources
-returns-in-default c = sym (at_past (ids (drive_sources c.args.self.now.status)) c.args.place (omega arith))
+returns-in_default c = sym (at_past (ids (drive_sources c.args.self.now.status)) c.args.place (omega arith))

@@ -54,6 +54,6 @@ pub returns-in-11 : goal.returns-in-11
 unfolding drive_sources at
 returns-in-11 c = reading-at c.args.self.now.status 11 c.in-11.is c.new-in-11.ensures
 
-pub returns-in-default : goal.returns-in-default
+pub returns-in_default : goal.returns-in_default
 unfolding drive_sources
-returns-in-default c = sym (ap reading_of (at_past (drive_sources c.args.self.now.status) c.args.place (omega arith)))
+returns-in_default c = sym (ap reading_of (at_past (drive_sources c.args.self.now.status) c.args.place (omega arith)))

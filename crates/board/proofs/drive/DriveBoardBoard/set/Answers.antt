@@ -7,4 +7,4 @@ use Rattle.board.proofs.drive.DriveBoardBoard.set.Goals as goal
 pub invariant_of-self : goal.invariant_of-self
 invariant_of-self c =
     let board = c.args.self.now in
-    ap lawful_board c.set.ensures.leaves ∙ lawful-after (drive_sources board.status) c.args.place c.args.reading.now board.lawful
+    record { lawful = ap lawful_board c.set.ensures.leaves ∙ lawful-after (drive_sources board.status) c.args.place c.args.reading.now board.lawful }

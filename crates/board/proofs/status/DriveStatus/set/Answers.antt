@@ -54,6 +54,6 @@ pub returns-in-11 : goal.returns-in-11
 unfolding drive_sources takes at lawful_reading reread
 returns-in-11 c = put_sets 11 1 _ c.in-11.is c.put-in-11.ensures.taken c.put-in-11.ensures.after refl refl refl
 
-pub returns-in-default : goal.returns-in-default
+pub returns-in_default : goal.returns-in_default
 unfolding drive_sources
-returns-in-default c = past_sets (drive_sources c.args.self.now) c.args.place c.args.reading.now (omega arith)
+returns-in_default c = past_sets (drive_sources c.args.self.now) c.args.place c.args.reading.now (omega arith)

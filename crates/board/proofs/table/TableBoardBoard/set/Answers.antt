@@ -22,9 +22,9 @@ returns-then-not-allows c =
     let refused : takes told c.args.place r ≡ false = table-takes t.ids t.readings t.count c.args.place r _ (omega arith) (omega arith) (omega arith) ∙ sym c.if-not-allows.ensures in
     record { taken = sym refused; after = sym (after_refused told c.args.place r refused) }
 
-pub returns-in-default : goal.returns-in-default
-returns-in-default c =
-    absurd (held-some c.args.reading.now (lawful-short _ c.args.reading.now (sym c.if-not-allows.ensures)) c.in-default.ensures)
+pub returns-in_default : goal.returns-in_default
+returns-in_default c =
+    absurd (held-some c.args.reading.now (lawful-short _ c.args.reading.now (sym c.if-not-allows.ensures)) c.in_default.ensures)
 
 pub invariant_of-self : goal.invariant_of-self
 invariant_of-self c =

@@ -6,11 +6,11 @@ use Rattle.book.proofs.parts.Book.pick_up.Goals as goal
 pub slice-bounds-hear-end : goal.slice-bounds-hear-end
 slice-bounds-hear-end g c =
     let line = g.C.Carrier.carried c.args.carrier.now in
-    let h = fetch-inside line c.args.buffer.now c.fetch.new.buffer c.in-ok-count.count c.in-ok-count.ensures.result c.fetch.ensures.buffer in
+    let h = fetch-inside line c.args.buffer.now c.fetch.new.buffer c.in_ok-count.count c.in_ok-count.ensures.result c.fetch.ensures.buffer in
     search rules
 
 pub returns : goal.returns
 returns g c =
     let line = g.C.Carrier.carried c.args.carrier.now in
-    pick_heard line (book_in c.args.self.now) (book_in c.hear.new.self) c.args.buffer.now c.fetch.new.buffer _ c.in-ok-count.count c.hear.result
-    c.in-default.ensures c.in-ok-count.ensures.result c.fetch.ensures.buffer refl c.hear.ensures
+    pick_heard line (book_in c.args.self.now) (book_in c.hear.new.self) c.args.buffer.now c.fetch.new.buffer _ c.in_ok-count.count c.hear.result
+    c.in_default.ensures c.in_ok-count.ensures.result c.fetch.ensures.buffer refl c.hear.ensures

@@ -21,15 +21,15 @@ returns-in-Some c =
     not_written Sync _ (request_message c.args.delay.0 c.args.retry.0 items) k c.args.buffer.now c.in-Some.refusal
     (one_no (request_questions k.phase room) (item_questions items) c.in-Some.refusal c.in-Some.ensures)
 
-pub returns-in-err-count : goal.returns-in-err-count
-returns-in-err-count c =
+pub returns-in_err-count : goal.returns-in_err-count
+returns-in_err-count c =
     let p = err_from_is_err_and c.from-residual.result c.from-residual.ensures.1 in
     let k = book_in c.args.self.now in
     let items = c.args.items.now in
     let before = c.args.buffer.now in
     let after = c.write_sync.new.buffer in
-    let r = c.in-err-count.field-0.0 in
+    let r = c.in_err-count.field-0.0 in
     let bytes = request_message c.args.delay.0 c.args.retry.0 items in
-    let asked = yes_between (leb 217 (length before)) (awaits_nothing k.phase) RequestBufferShort StillAwaiting (item_questions items) c.in-default.ensures in
+    let asked = yes_between (leb 217 (length before)) (awaits_nothing k.phase) RequestBufferShort StillAwaiting (item_questions items) c.in_default.ensures in
     rw (p.1, p.2) (writer_refuses Sync (first_no (sync_questions k.phase (length before) items)) bytes k before after r
-    (subst (λ (q : Option Refusal). Gives (unless q bytes) before after (Err r)) asked c.in-err-count.ensures))
+    (subst (λ (q : Option Refusal). Gives (unless q bytes) before after (Err r)) asked c.in_err-count.ensures))

@@ -9,12 +9,12 @@ pub returns : goal.returns
 unfolding rows
 returns c =
     let t = c.args.self.now in
-    let f = subst (λ (m : ℕ). First (take m t.keys) c.args.id c.in-ok-i.i) (sub-zero t.len) c.in-ok-i.ensures in
-    sym (seen t.keys t.readings t.len t.few t.keyed t.read c.in-ok-i.i c.args.id _ f)
+    let f = subst (λ (m : ℕ). First (take m t.keys) c.args.id c.in_ok-i.i) (sub-zero t.len) c.in_ok-i.ensures in
+    sym (seen t.keys t.readings t.len t.few t.keyed t.read c.in_ok-i.i c.args.id _ f)
 
-pub returns-in-err-i : goal.returns-in-err-i
+pub returns-in_err-i : goal.returns-in_err-i
 unfolding rows
-returns-in-err-i c =
+returns-in_err-i c =
     let t = c.args.self.now in
-    let f = subst (λ (m : ℕ). Nowhere (take m t.keys) c.args.id) (sub-zero t.len) c.in-err-i.ensures in
+    let f = subst (λ (m : ℕ). Nowhere (take m t.keys) c.args.id) (sub-zero t.len) c.in_err-i.ensures in
     rw c.from-residual.ensures (sym (unseen t.keys t.readings t.len t.few t.keyed t.read c.args.id f))

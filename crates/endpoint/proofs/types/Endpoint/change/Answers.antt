@@ -6,11 +6,11 @@ use Rattle.endpoint.specs.View.{as_endpoint}
 use Rattle.endpoint.proofs.Changes.{place_below, kept-is, too_long, no_place, unlawful, not_taken, taken}
 use Rattle.endpoint.proofs.types.Endpoint.change.Goals as goal
 
-pub returns-in-default : goal.returns-in-default
-returns-in-default g c = no_place _ _ _ _ c.in-default.ensures
+pub returns-in_default : goal.returns-in_default
+returns-in_default g c = no_place _ _ _ _ c.in_default.ensures
 
-pub returns-in-default-new : goal.returns-in-default-new
-returns-in-default-new g c = unlawful _ _ _ c.in-Some.id _ c.in-Some.ensures (too_long _ _ c.in-default-new.ensures)
+pub returns-in_default-new : goal.returns-in_default-new
+returns-in_default-new g c = unlawful _ _ _ c.in-Some.id _ c.in-Some.ensures (too_long _ _ c.in_default-new.ensures)
 
 pub returns-then-not-set : goal.returns-then-not-set
 returns-then-not-set g c = not_taken _ _ _ c.in-Some.id _ c.in-Some.ensures _ c.if-not-set.ensures.taken c.if-not-set.ensures.after

@@ -6,19 +6,19 @@ use Rattle.wire.specs.View.{left, read_by}
 use Rattle.endpoint.proofs.Asked.{asked, refused}
 use Rattle.endpoint.proofs.types.Endpoint.request.Goals as goal
 
-pub returns-in-err-slot : goal.returns-in-err-slot
-returns-in-err-slot g c = record {
+pub returns-in_err-slot : goal.returns-in_err-slot
+returns-in_err-slot g c = record {
   mask = search rules;
   turn =
       let p = err_from_is_err_and c.from-residual.result c.from-residual.ensures.1 in
-      rw (p.1, p.2) (refused _ _ _ _ _ _ _ _ (omega arith) c.in-err-slot.ensures.said);
+      rw (p.1, p.2) (refused _ _ _ _ _ _ _ _ (omega arith) c.in_err-slot.ensures.said);
 }
 
 pub returns-in-Sync : goal.returns-in-Sync
 returns-in-Sync g c = record {
   mask = search rules;
   turn = asked _ _ _ _ _ _ _ _ _ _ _ (Sync c.in-Sync.slot (left c.in-Sync.items) c.in-Sync.delay.0 c.in-Sync.retry.0) (omega arith)
-      (ap (λ (m : Message). Ok (read_by m)) (sym c.in-Sync.is) ∙ c.in-ok-slot.ensures.said)
+      (ap (λ (m : Message). Ok (read_by m)) (sym c.in-Sync.is) ∙ c.in_ok-slot.ensures.said)
       c.sync.ensures;
 }
 
@@ -26,6 +26,6 @@ pub returns-in-Ack : goal.returns-in-Ack
 returns-in-Ack g c = record {
   mask = search rules;
   turn = asked _ _ _ _ _ _ _ _ _ _ _ (Ack c.in-Ack.slot) (omega arith)
-      (ap (λ (m : Message). Ok (read_by m)) (sym c.in-Ack.is) ∙ c.in-ok-slot.ensures.said)
+      (ap (λ (m : Message). Ok (read_by m)) (sym c.in-Ack.is) ∙ c.in_ok-slot.ensures.said)
       c.ack.ensures;
 }

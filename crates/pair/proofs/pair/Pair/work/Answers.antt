@@ -7,7 +7,7 @@ use Rattle.pair.proofs.pair.Pair.work.Goals as goal
 pub invariant_of-log : goal.invariant_of-log
 invariant_of-log g c =
     let fits : c.lent-room.result - 0 ≤ length c.args.log.now.buffer = omega (arith, c.lent-room.ensures.fits, c.args.log.now.long) in
-    part_long c.args.log.now.buffer c.step-reply.new.buffer (c.lent-room.result - 0) fits c.step-reply.auto.buffer ∙ c.args.log.now.long
+    record { long = part_long c.args.log.now.buffer c.step-reply.new.buffer (c.lent-room.result - 0) fits c.step-reply.auto.buffer ∙ c.args.log.now.long }
 
 pub returns : goal.returns
 returns g c =
