@@ -5,7 +5,7 @@ use Rattle.list.proofs.read.behind_lawful.Goals as goal
 
 pub returns-in_err-front : goal.returns-in_err-front
 returns-in_err-front c =
-    rw c.from-residual.ensures (body_without_front c.args.bytes.now (no_front c.args.bytes.now c.in_err-front.ensures))
+    rw c.from_residual.ensures (body_without_front c.args.bytes.now (no_front c.args.bytes.now c.in_err-front.ensures))
 
 pub returns-then-not-in_form : goal.returns-then-not-in_form
 returns-then-not-in_form c =

@@ -29,7 +29,7 @@ returns-in_err-list c =
     let s = c.args.bytes.now in
     let seven : 7 ≤ length s = search rules in
     let read = told s (λ k. (c.type_inv.bytes k).fits) seven c.if-version-ne0.false c.if-header_length-ne7.false _ _ None c.from_le_bytes-info.ensures (take_rest s 7) c.in_err-list.ensures in
-    rw c.from-residual.ensures (record { listing = read; only = tt; back = reads_back })
+    rw c.from_residual.ensures (record { listing = read; only = tt; back = reads_back })
 
 pub returns : goal.returns
 returns c =

@@ -11,7 +11,7 @@ returns-in_default c =
 pub returns-in_err-unique_id : goal.returns-in_err-unique_id
 returns-in_err-unique_id c =
     let three : length c.args.words.now ≡ 3 = search rules in
-    let p = err_from_is_err_and c.from-residual.result c.from-residual.ensures.1 in
+    let p = err_from_is_err_and c.from_residual.result c.from_residual.ensures.1 in
     rw (p.1, p.2) (sym (show_three c.args.words.now _ (Err c.in_err-unique_id.field-0.0) three c.in_err-unique_id.ensures))
 
 pub returns : goal.returns

@@ -6,7 +6,7 @@ use Rattle.script.proofs.action.tick.Goals as goal
 pub returns-in_err-decimal : goal.returns-in_err-decimal
 returns-in_err-decimal c =
     let one : length c.args.words.now ≡ 1 = search rules in
-    let p = err_from_is_err_and c.from-residual.result c.from-residual.ensures.1 in
+    let p = err_from_is_err_and c.from_residual.result c.from_residual.ensures.1 in
     rw (p.1, p.2) (sym (tick_one c.args.words.now _ (Err c.in_err-decimal.field-0.0) one c.in_err-decimal.ensures))
 
 pub returns-in-empty : goal.returns-in-empty

@@ -9,14 +9,14 @@ use Rattle.script.proofs.items.listed.Goals.{then-byte-eq44+in_ok-item+in_ok-pus
 
 pub returns-in_err-item : goal.returns-in_err-item
 returns-in_err-item c =
-    let p = err_from_is_err_and c.from-residual.result c.from-residual.ensures.1 in
+    let p = err_from_is_err_and c.from_residual.result c.from_residual.ensures.1 in
     rw (p.1, p.2)
     (inr (sym c.loop-i.invariant.1 ∙ item_fault (vec_items c.loop-i.items) c.args.word.now c.loop-i.start c.loop-i.i c.in_err-item.field-0.0 c.loop-i-test.true c.if-byte-eq44.true c.in_err-item.ensures))
 
 pub returns-in_err-item-2 : goal.returns-in_err-item-2
 returns-in_err-item-2 c =
     let end : c.loop-i.i ≡ length c.args.word.now = omega arith in
-    let p = err_from_is_err_and c.from-residual-in_err-item-2.result c.from-residual-in_err-item-2.ensures.1 in
+    let p = err_from_is_err_and c.from_residual-in_err-item-2.result c.from_residual-in_err-item-2.ensures.1 in
     rw (p.1, p.2)
     (inr (sym c.loop-i.invariant.1 ∙ item_end_fault (vec_items c.loop-i.items) c.args.word.now c.loop-i.start c.loop-i.i c.in_err-item-2.field-0.0 end c.in_err-item-2.ensures))
 

@@ -23,7 +23,7 @@ returns-in-Some c =
 
 pub returns-in_err-count : goal.returns-in_err-count
 returns-in_err-count c =
-    let p = err_from_is_err_and c.from-residual.result c.from-residual.ensures.1 in
+    let p = err_from_is_err_and c.from_residual.result c.from_residual.ensures.1 in
     let k = book_in c.args.self.now in
     let items = c.args.items.now in
     let before = c.args.buffer.now in

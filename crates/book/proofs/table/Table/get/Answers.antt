@@ -17,4 +17,4 @@ unfolding rows
 returns-in_err-i c =
     let t = c.args.self.now in
     let f = subst (λ (m : ℕ). Nowhere (take m t.keys) c.args.id) (sub-zero t.len) c.in_err-i.ensures in
-    rw c.from-residual.ensures (sym (unseen t.keys t.readings t.len t.few t.keyed t.read c.args.id f))
+    rw c.from_residual.ensures (sym (unseen t.keys t.readings t.len t.few t.keyed t.read c.args.id f))

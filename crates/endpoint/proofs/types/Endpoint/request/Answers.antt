@@ -10,7 +10,7 @@ pub returns-in_err-slot : goal.returns-in_err-slot
 returns-in_err-slot g c = record {
   mask = search rules;
   turn =
-      let p = err_from_is_err_and c.from-residual.result c.from-residual.ensures.1 in
+      let p = err_from_is_err_and c.from_residual.result c.from_residual.ensures.1 in
       rw (p.1, p.2) (refused _ _ _ _ _ _ _ _ (omega arith) c.in_err-slot.ensures.said);
 }
 

@@ -15,7 +15,7 @@ pub returns-in_err-found : goal.returns-in_err-found
 returns-in_err-found c =
     let bytes = c.args.self.now.rest.now in
     let e = fronts_end c.args.self.now.number bytes (no_front bytes c.in_err-found.ensures) in
-    rw c.from-residual.ensures (record { steps = (e, e); goes = firm (tt) (λ h. search rules) })
+    rw c.from_residual.ensures (record { steps = (e, e); goes = firm (tt) (λ h. search rules) })
 
 pub returns-in_err-reading : goal.returns-in_err-reading
 returns-in_err-reading c =
@@ -23,7 +23,7 @@ returns-in_err-reading c =
     let f = c.in_ok-found.found in
     let long = not_passed (leb (length f.reading.now) 64) f.reading.now (sym c.in_err-reading.ensures) in
     let e = fronts_end c.args.self.now.number bytes (front_by_length bytes f c.in_ok-found.ensures ∙ long) in
-    rw c.from-residual-in_err-reading.ensures (record { steps = (e, e); goes = firm (tt) (λ h. search rules) })
+    rw c.from_residual-in_err-reading.ensures (record { steps = (e, e); goes = firm (tt) (λ h. search rules) })
 
 pub returns : goal.returns
 returns c =
