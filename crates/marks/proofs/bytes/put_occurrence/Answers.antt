@@ -11,13 +11,13 @@ head-is : (id : UniqueId) (n s v : ℕ) (bs : Bytes) → bs ≡ le32 id.info →
     → 9 ∷ s ∷ v ∷ id.identifier ∷ get_or bs 0 0 ∷ get_or bs 1 0 ∷ get_or bs 2 0 ∷ get_or bs 3 0 ∷ id.scope ∷ [] ≡ occurrence_head id n
 head-is id n s v bs b es ev = λ i. 9 ∷ es i ∷ ev i ∷ id.identifier ∷ get_or (b i) 0 0 ∷ get_or (b i) 1 0 ∷ get_or (b i) 2 0 ∷ get_or (b i) 3 0 ∷ id.scope ∷ []
 
-pub put_body-requires : goal.put_body-requires
+pub put-body-requires : goal.put-body-requires
 unfolding occurrence_bytes
-put_body-requires c = omega arith
+put-body-requires c = omega arith
 
 pub put-requires : goal.put-requires
 unfolding occurrence_bytes
-put-requires c = omega (arith, ap length c.as_bytes-bytes.ensures, c.put_body.ensures.end)
+put-requires c = omega (arith, ap length c.as_bytes-bytes.ensures, c.put-body.ensures.end)
 
 pub returns : goal.returns
 unfolding occurrence_bytes
@@ -29,7 +29,7 @@ returns c =
     let view = c.as_bytes-bytes.ensures in
     let long = ap length view in
     let split = c.split_length-specific.ensures in
-    let first = c.put_body.ensures in
+    let first = c.put-body.ensures in
     let first-end = first.end in
     let last = c.put.ensures in
     let head = head-is id (length r) _ _ _ c.to_le_bytes.ensures (split.specific ∙ ap (specific_length id.identifier) long) (split.vendor ∙ ap (vendor_length id.identifier) long) in

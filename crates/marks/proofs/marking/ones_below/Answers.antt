@@ -13,8 +13,8 @@ below-is c = elim c.if-count-lt64.branch [
       w.below-is ∙ sym (mod-eq_of_lt c.ranges.set.fits) ∙ ap (λ (k : ℕ). c.args.set % 2 ^ k) (sym e)
 ]
 
-pub overflow-cast-result : goal.overflow-cast-result
-overflow-cast-result c =
+pub overflow_cast-result : goal.overflow_cast-result
+overflow_cast-result c =
     let e = below-is c in
     let l : c.if-count-lt64.below < 2 ^ 64 = omega (arith, e, mod-le c.args.set (2 ^ c.args.count), c.ranges.set.fits) in
     let n = ones-le 64 c.if-count-lt64.below l in

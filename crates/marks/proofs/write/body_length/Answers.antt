@@ -10,8 +10,8 @@ use Rattle.marks.proofs.Listing.{rest-marked, rest-unmarked, rest_end}
 use Rattle.marks.proofs.write.body_length.Goals as goal
 use Rattle.marks.proofs.write.body_length.Goals.{in-Some, in_default}
 
-pub overflow-add-n-in-Some : goal.overflow-add-n-in-Some
-overflow-add-n-in-Some g c =
+pub overflow_add-n-in-Some : goal.overflow_add-n-in-Some
+overflow_add-n-in-Some g c =
     let told = g.B.Board.told c.args.board.now in
     let few = few_sources told (g.met.B.Board.lawful c.args.board.now) in
     let size = ap length c.as_bytes.ensures in

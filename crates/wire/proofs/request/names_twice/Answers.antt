@@ -25,8 +25,8 @@ loop-i-preserved c =
       length-set row i x ∙ c.loop-i.invariant.1,
     )
 
-pub slice-bounds-has_twice-end : goal.slice-bounds-has_twice-end
-slice-bounds-has_twice-end c = omega (arith, c.loop-i.invariant.1)
+pub slice_bounds-has_twice-end : goal.slice_bounds-has_twice-end
+slice_bounds-has_twice-end c = omega (arith, c.loop-i.invariant.1)
 
 pub returns : goal.returns
 returns c =

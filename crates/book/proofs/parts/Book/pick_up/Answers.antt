@@ -3,8 +3,8 @@ use Rattle.book.specs.View.{book_in}
 use Rattle.book.proofs.Picked.{pick_heard, fetch-inside}
 use Rattle.book.proofs.parts.Book.pick_up.Goals as goal
 
-pub slice-bounds-hear-end : goal.slice-bounds-hear-end
-slice-bounds-hear-end g c =
+pub slice_bounds-hear-end : goal.slice_bounds-hear-end
+slice_bounds-hear-end g c =
     let line = g.C.Carrier.carried c.args.carrier.now in
     let h = fetch-inside line c.args.buffer.now c.fetch.new.buffer c.in_ok-count.count c.in_ok-count.ensures.result c.fetch.ensures.buffer in
     search rules

@@ -7,8 +7,8 @@ use Rattle.endpoint.specs.View.{as_endpoint}
 use Rattle.endpoint.proofs.Attempts.{room_given, count_is, count_fits, front-is}
 use Rattle.endpoint.proofs.types.Endpoint.send.Goals as goal
 
-pub slice-bounds-put-end : goal.slice-bounds-put-end
-slice-bounds-put-end g c =
+pub slice_bounds-put-end : goal.slice_bounds-put-end
+slice_bounds-put-end g c =
     let m = message_of (ids (g.B.Board.told c.args.board.now)) c.args.retries (as_endpoint c.args.self.now) in
     let before = c.args.buffer.now in
     let after = c.write_event.new.buffer in
