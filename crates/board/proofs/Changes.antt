@@ -1,9 +1,8 @@
 -- Which changes of a board are refused. Assumes nothing.
-use Rattle.std.proofs.Common.{◌≡◌, ℕ, ◌<◌, ◌≤◌, true, false, cond, ltb, length, Some, None, Option, refl, arith}
+use Rattle.std.proofs.Common.{◌≡◌, ℕ, ◌<◌, ◌≤◌, true, false, cond, ltb, length, Some, None, refl, arith}
 use Rattle.std.proofs.lemmas.Bool.Decides.{nat_tests}
 use Rattle.event.specs.Bytes.{Bytes}
 use Rattle.event.specs.Sources.{Occurrence, lawful_reading}
-use Rattle.event.specs.declared.refusal.Refusal.{Refusal}
 use Rattle.event.specs.declared.refusal.Refusal.TheVariants.{NoSuchPlace, UnlawfulReading}
 use Rattle.board.specs.Boards.{Sources, at, takes}
 use Rattle.board.specs.Changes.{change_refusal}

@@ -1,10 +1,10 @@
 -- The table board's columns, and what a set makes of them. Assumes nothing.
-use Rattle.std.proofs.Common.{◌≡◌, ℕ, zero, suc, ◌-◌, ◌<◌, ◌≤◌, Bool, true, false, cond, not, eqb, leb, List, [], ◌∷◌, map, length, get_or, take, set, Some, None, Option, sym, refl, ap, ◌∙◌, subst, ⊎_elim, arith}
+use Rattle.std.proofs.Common.{◌≡◌, ℕ, zero, suc, ◌-◌, ◌<◌, ◌≤◌, Bool, true, false, cond, not, eqb, leb, List, [], ◌∷◌, map, length, get_or, take, set, Some, None, Option, sym, refl, ap, ◌∙◌, ⊎_elim, arith}
 use native.Mathlib.Nat.{sub-zero}
 use Rattle.std.proofs.lemmas.Bool.{cases_Bool, and_parts, eqb-true, leb-true, le-leb}
 use Rattle.keys.specs.Keys.{twice}
 use Rattle.event.specs.Bytes.{Bytes, byte, within}
-use Rattle.event.specs.Sources.{occurrence, same_id, is_vendor, one_byte, reading_fits, lawful_reading}
+use Rattle.event.specs.Sources.{occurrence, same_id, is_vendor, one_byte, lawful_reading}
 use Rattle.event.specs.View.{held, occurrence_of}
 use Rattle.event.specs.declared.id.UniqueId.{UniqueId}
 use Rattle.event.specs.declared.occurrence.Occurrence.{Occurrence as Row}

@@ -1,5 +1,5 @@
 -- What the table board tells, and from which rows it is made. Assumes nothing.
-use Rattle.std.specs.Prelude.{◌≡◌, ℕ, Bool, not, List, [], ◌∷◌, map, length, take, Some, None, Ok, Err, Option, Result}
+use Rattle.std.specs.Prelude.{◌≡◌, ℕ, not, List, [], ◌∷◌, map, length, take, Some, None, Ok, Err, Option, Result}
 use Rattle.keys.specs.Keys.{twice}
 use Rattle.event.specs.Bytes.{within}
 use Rattle.event.specs.Refusals.{Question, ask, first_no}

@@ -1,9 +1,8 @@
 -- The test of two unique IDs tells them apart. Assumes nothing.
-use Rattle.std.proofs.Common.{◌≡◌, ◌&&◌, eqb, ap}
+use Rattle.std.proofs.Common.{◌&&◌, eqb, ap}
 use Rattle.std.proofs.lemmas.Bool.Decides.{Decides-eqb, Decides-and, Decides-like}
 use Rattle.keys.specs.Keys.{Test}
 use Rattle.event.specs.Sources.{same_id}
-use Rattle.event.specs.declared.id.UniqueId.{UniqueId}
 
 -- unique IDs are told apart by `same_id`
 pub same_id_test : Test same_id

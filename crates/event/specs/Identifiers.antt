@@ -1,5 +1,5 @@
 -- Enabled identifiers: a set of 256, as four words of 64 bits. Assumes nothing.
-use Rattle.std.specs.Prelude.{◌≡◌, ℕ, ◌+◌, ◌-◌, ◌/◌, ◌%◌, ◌^◌, ◌<◌, Bool, true, false, cond, not, ◌||◌, List, [], ◌∷◌, length, set, ◌==◌, bit_and, bit_or, slice_index, slice_set}
+use Rattle.std.specs.Prelude.{◌≡◌, ℕ, ◌-◌, ◌/◌, ◌%◌, ◌^◌, ◌<◌, Bool, false, cond, not, ◌||◌, List, [], ◌∷◌, ◌==◌, bit_and, bit_or, slice_index, slice_set}
 
 -- four words, identifiers 0 to 63 in the first
 abbrev pub Words : Type 0

@@ -1,5 +1,5 @@
 -- Sources of events: their unique IDs, and which IDs and readings are lawful. Assumes nothing.
-use Rattle.std.specs.Prelude.{ℕ, Bool, true, false, cond, ◌&&◌, ◌||◌, length, ◌==◌, nat_le}
+use Rattle.std.specs.Prelude.{ℕ, Bool, false, cond, ◌&&◌, ◌||◌, length, ◌==◌, nat_le}
 use Rattle.event.specs.Bytes.{Bytes, byte, within}
 use Rattle.event.specs.declared.id.UniqueId.{UniqueId}
 

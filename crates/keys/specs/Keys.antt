@@ -1,5 +1,5 @@
 -- What a search for a key in a row finds, and whether a row has a key twice. Assumes nothing.
-use Rattle.std.specs.Prelude.{◌≡◌, ℕ, ◌<◌, Bool, true, false, ◌||◌, List, [], ◌∷◌, length, Some, None, Decides, Option, ◌≢◌, slice_index_or}
+use Rattle.std.specs.Prelude.{◌≡◌, ℕ, ◌<◌, Bool, false, ◌||◌, List, [], ◌∷◌, length, Some, None, Decides, Option, ◌≢◌, slice_index_or}
 
 -- the key stands at the place, and nowhere before it
 pub record First {K : Type 0} (keys : List K) (key : K) (place : ℕ) : Type 0 where

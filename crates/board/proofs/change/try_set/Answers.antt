@@ -1,4 +1,4 @@
-use Rattle.std.proofs.Common.{◌≡◌, ◌<◌, ◌≤◌, Bool, cond, length, Some, None, sym, ap, ◌∙◌, arith}
+use Rattle.std.proofs.Common.{◌<◌, ◌≤◌, Bool, cond, length, Some, None, sym, ap, ◌∙◌, arith}
 use Rattle.event.specs.declared.refusal.Refusal.TheVariants.{UnlawfulReading}
 use Rattle.board.specs.Changes.{handed_back}
 use Rattle.board.proofs.Changes.{change_past, change-below}

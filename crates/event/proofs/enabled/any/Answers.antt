@@ -1,4 +1,4 @@
-use Rattle.std.proofs.Common.{◌≡◌, ℕ, ◌+◌, ◌<◌, ◌≤◌, Bool, true, false, not, ◌||◌, eqb, length, get_or, drop, sym, refl, ap, ◌∙◌, arith, rules, eq-eqb, ne_eqb}
+use Rattle.std.proofs.Common.{◌+◌, ◌<◌, ◌≤◌, Bool, not, ◌||◌, length, get_or, drop, sym, ap, ◌∙◌, rules, eq-eqb, ne_eqb}
 use Rattle.std.proofs.lemmas.List.{at_drop_more, at_drop_all}
 use Rattle.event.specs.Identifiers.{any}
 use Rattle.event.proofs.enabled.any.Goals as goal

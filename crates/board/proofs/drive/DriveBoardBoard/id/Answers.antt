@@ -1,4 +1,4 @@
-use Rattle.std.proofs.Common.{◌≡◌, ℕ, Some, sym, refl, ap, ◌∙◌, arith}
+use Rattle.std.proofs.Common.{ℕ, Some, sym, ap, ◌∙◌, arith}
 use Rattle.board.specs.Boards.{at, ids}
 use Rattle.board.specs.Drives.{of_controller, drive_sources}
 use Rattle.board.proofs.Drives.{id_controller, id_subsystem}

@@ -1,5 +1,5 @@
 -- Each arm's status is the reading at its place.
-use Rattle.std.proofs.Common.{◌≡◌, Some, sym, ap, arith}
+use Rattle.std.proofs.Common.{Some, sym, ap, arith}
 use Rattle.board.specs.Boards.{at, reading_of}
 use Rattle.board.specs.Drives.{drive_sources}
 use Rattle.board.proofs.Drives.{reading-at}

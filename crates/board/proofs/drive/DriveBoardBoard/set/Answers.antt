@@ -1,4 +1,4 @@
-use Rattle.std.proofs.Common.{◌≡◌, sym, ap, ◌∙◌}
+use Rattle.std.proofs.Common.{ap, ◌∙◌}
 use Rattle.board.specs.Boards.{lawful_board}
 use Rattle.board.specs.Drives.{drive_sources}
 use Rattle.board.proofs.Rereads.{lawful-after}

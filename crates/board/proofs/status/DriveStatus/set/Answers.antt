@@ -1,5 +1,5 @@
 -- Each arm changes the reading at its place.
-use Rattle.std.proofs.Common.{◌≡◌, refl, arith}
+use Rattle.std.proofs.Common.{refl, arith}
 use Rattle.event.specs.Sources.{lawful_reading}
 use Rattle.board.specs.Boards.{at, takes, reread}
 use Rattle.board.specs.Drives.{drive_sources}

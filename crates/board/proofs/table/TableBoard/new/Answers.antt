@@ -1,4 +1,4 @@
-use Rattle.std.proofs.Common.{◌≡◌, ℕ, ◌-◌, ◌<◌, ◌≤◌, Bool, true, false, ◌⊎◌, List, length, take, Ok, Option, sym, refl, ap, ◌∙◌, ⊎_elim, arith}
+use Rattle.std.proofs.Common.{◌≡◌, ℕ, ◌-◌, ◌<◌, ◌≤◌, Bool, true, false, ◌⊎◌, List, length, take, Ok, Option, sym, ap, ◌∙◌, ⊎_elim, arith}
 use Rattle.std.proofs.lemmas.Bool.Decides.{nat_tests}
 use Rattle.keys.specs.Keys.{twice}
 use Rattle.event.proofs.SameId.{same_id_test}
@@ -9,7 +9,7 @@ use Rattle.event.specs.declared.occurrence.Occurrence.{Occurrence as Row}
 use Rattle.event.specs.declared.reading.Reading.{Reading}
 use Rattle.event.specs.declared.refusal.Refusal.{Refusal}
 use Rattle.board.specs.Boards.{ids, lawful_board}
-use Rattle.board.specs.Tables.{rows_told, row_refusal, board_of, Columns}
+use Rattle.board.specs.Tables.{rows_told, board_of, Columns}
 use Rattle.board.proofs.Tables.{rows-length, columns_ids, columns_tell, refuse_count, refuse_unlawful, refuse_twice, refuse_none, rows-lawful}
 use Rattle.board.proofs.table.TableBoard.new.Goals as goal
 

@@ -1,4 +1,4 @@
-use Rattle.std.proofs.Common.{◌≡◌, sym, ap, ◌∙◌, arith}
+use Rattle.std.proofs.Common.{sym, arith}
 use Rattle.board.proofs.Tables.{length-table}
 use Rattle.board.proofs.table.TableBoardBoard.count.Goals as goal
 

@@ -1,4 +1,4 @@
-use Rattle.std.proofs.Common.{◌≡◌, sym, ap, ◌∙◌, arith}
+use Rattle.std.proofs.Common.{sym, ◌∙◌, arith}
 use Rattle.board.specs.Boards.{ids}
 use Rattle.board.specs.Tables.{table_sources}
 use Rattle.board.proofs.Rereads.{length_ids, at_past}

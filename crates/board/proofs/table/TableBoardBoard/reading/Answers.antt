@@ -1,4 +1,4 @@
-use Rattle.std.proofs.Common.{◌≡◌, sym, ap, ◌∙◌, arith}
+use Rattle.std.proofs.Common.{sym, ap, arith}
 use Rattle.board.specs.Boards.{reading_of}
 use Rattle.board.specs.Tables.{table_sources}
 use Rattle.board.proofs.Rereads.{at_past}
