@@ -24,10 +24,10 @@ returns c =
     let short : total / 256 ≡ (5 + length body) / 256 % 256 = omega arith in
     let low : total % 256 ≡ (5 + length body) % 256 = omega arith in
     let same : header ++ body ≡ enable_list items = (λ i. length items ∷ 0 ∷ low i ∷ short i ∷ 5 ∷ body) in
-    let one : c.put_list.new.buffer ≡ over_front head d = c.put_list.ensures.buffer ∙ placed-front d head in
-    let at : c.put_list.result ≡ length head = omega (arith, c.put_list.ensures.end) in
+    let one : c.put-list.new.buffer ≡ over_front head d = c.put-list.ensures.buffer ∙ placed-front d head in
+    let at : c.put-list.result ≡ length head = omega (arith, c.put-list.ensures.end) in
     let two : c.put-first.new.buffer ≡ over_front (head ++ header) d =
-    c.put-first.ensures.buffer ∙ ap (λ (l : Bytes). placed l c.put_list.result header) one ∙ one_more d head header c.put_list.result at in
+    c.put-first.ensures.buffer ∙ ap (λ (l : Bytes). placed l c.put-list.result header) one ∙ one_more d head header c.put-list.result at in
     let first : c.put-first.result ≡ length (head ++ header) = omega (arith, c.put-first.ensures.end) in
     let three : c.put_items-end.new.buffer ≡ over_front whole d =
     c.put_items-end.ensures.buffer ∙ ap (λ (l : Bytes). placed l c.put-first.result body) two ∙ one_more d (head ++ header) body c.put-first.result first in
