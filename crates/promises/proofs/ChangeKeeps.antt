@@ -92,8 +92,8 @@ module _ (us : List UniqueId) (b : Sources) (same : ids b ≡ us) (u : UniqueId)
         board = board-lawful ok.0.board;
         prior-lawful = ok.0.prior-lawful;
         since-lawful = ok.0.since-lawful;
-        since_now = λ q v s a on x. still q v s (another e.enabled off q v a on) (ok.0.since-now q v s a on x);
-        prior_now = λ q v s a on x y. still q v s (another e.enabled off q v a on) (ok.0.prior-now q v s a on x y);
+        since_now = λ q v s a on x. still q v s (another e.enabled off q v a on) (ok.0.since_now q v s a on x);
+        prior_now = λ q v s a on x y. still q v s (another e.enabled off q v a on) (ok.0.prior_now q v s a on x y);
       },
       ok.1,
       ok.2,
@@ -101,8 +101,8 @@ module _ (us : List UniqueId) (b : Sources) (same : ids b ≡ us) (u : UniqueId)
     shows = λ h es x. record {
       now = λ q v s a on f. now q v s (another e.enabled off q v a on) (x.now q v s a on f);
       had = (shows_more us h es _ _ _ b b' x).had;
-      prior_had = λ q v s a y. inr (x.prior-had q v s a y);
-      since_had = λ q v s a y. inr (x.since-had q v s a y);
+      prior_had = λ q v s a y. inr (x.prior_had q v s a y);
+      since_had = λ q v s a y. inr (x.since_had q v s a y);
     };
     own = λ o. o;
     held = λ es x. x;
@@ -132,14 +132,14 @@ module _ (us : List UniqueId) (b : Sources) (same : ids b ≡ us) (u : UniqueId)
       where
         go : (q : ℕ) (v : UniqueId) (s : Bytes) → at us q ≡ some v → has enabled v.identifier ≡ true → update prior p (some r) q ≡ some s → since q ≡ none → Tells q p → Now b' q v s
         go q v s a on x y (inl h) = marked_now prior q v s a x h.0 h.1
-        go q v s a on x y (inr h) = still q v s h.1 (ok.prior-now q v s a on (sym (miss prior p (some r) q h.0) ∙ x) y)
+        go q v s a on x y (inr h) = still q v s h.1 (ok.prior_now q v s a on (sym (miss prior p (some r) q h.0) ∙ x) y)
 
     shows-prior : (h : List Sources) (es : List Occurrence) → Shows us h es enabled prior since b → Shows us (b' ∷ h) es enabled (update prior p (some r)) since b'
     shows-prior h es x = record {
       now = λ q v s a on f. go q v s (x.now q v s a on f) (eqb_tells q p);
       had = (shows_more us h es enabled prior since b b' x).had;
-      prior_had = marks_had prior h x.prior-had;
-      since_had = λ q v s a y. inr (x.since-had q v s a y);
+      prior_had = marks_had prior h x.prior_had;
+      since_had = λ q v s a y. inr (x.since_had q v s a y);
     }
       where
         go : (q : ℕ) (v : UniqueId) (s : Bytes) → Now b q v s ⊎ (Marked prior q ⊎ Marked since q) → Tells q p →
@@ -162,18 +162,18 @@ module _ (us : List UniqueId) (b : Sources) (same : ids b ≡ us) (u : UniqueId)
       where
         newer : (q : ℕ) (v : UniqueId) (s : Bytes) → at us q ≡ some v → has enabled v.identifier ≡ true → update since p (some r) q ≡ some s → Tells q p → Now b' q v s
         newer q v s a on x (inl h) = marked_now since q v s a x h.0 h.1
-        newer q v s a on x (inr h) = still q v s h.1 (ok.since-now q v s a on (sym (miss since p (some r) q h.0) ∙ x))
+        newer q v s a on x (inr h) = still q v s h.1 (ok.since_now q v s a on (sym (miss since p (some r) q h.0) ∙ x))
 
         older : (q : ℕ) (v : UniqueId) (s : Bytes) → at us q ≡ some v → has enabled v.identifier ≡ true → prior q ≡ some s → update since p (some r) q ≡ none → Tells q p → Now b' q v s
         older q v s a on x y (inl h) = never r (sym y ∙ hit since p (some r) q h.0)
-        older q v s a on x y (inr h) = still q v s h.1 (ok.prior-now q v s a on x (sym (miss since p (some r) q h.0) ∙ y))
+        older q v s a on x y (inr h) = still q v s h.1 (ok.prior_now q v s a on x (sym (miss since p (some r) q h.0) ∙ y))
 
     shows-since : (h : List Sources) (es : List Occurrence) → Shows us h es enabled prior since b → Shows us (b' ∷ h) es enabled prior (update since p (some r)) b'
     shows-since h es x = record {
       now = λ q v s a on f. go q v s (x.now q v s a on f) (eqb_tells q p);
       had = (shows_more us h es enabled prior since b b' x).had;
-      prior_had = λ q v s a y. inr (x.prior-had q v s a y);
-      since_had = marks_had since h x.since-had;
+      prior_had = λ q v s a y. inr (x.prior_had q v s a y);
+      since_had = marks_had since h x.since_had;
     }
       where
         go : (q : ℕ) (v : UniqueId) (s : Bytes) → Now b q v s ⊎ (Marked prior q ⊎ Marked since q) → Tells q p →

@@ -30,8 +30,8 @@ pub shows_more : (us : List UniqueId) (h : List Sources) (es : List Occurrence) 
 shows_more us h es enabled prior since b b' s = record {
   now = s.now;
   had = λ u r f. (let x = s.had u r f in (x.0, inr x.1));
-  prior_had = λ q u r a e. inr (s.prior-had q u r a e);
-  since_had = λ q u r a e. inr (s.since-had q u r a e);
+  prior_had = λ q u r a e. inr (s.prior_had q u r a e);
+  since_had = λ q u r a e. inr (s.since_had q u r a e);
 }
 
 -- either way

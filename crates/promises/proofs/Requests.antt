@@ -123,16 +123,16 @@ module _ (us : List UniqueId) (laws : Laws us) where
             Now b q u r ⊎ (Marked prior q ⊎ Marked since q) → Now b q u r
         old q u r a on clear f (inl y) = y
         old q u r a on clear f (inr (inl y)) =
-            ok.prior-now q u y.0 a on y.1 clear ∙ ap {B = Option Occurrence} (λ s. some (occurrence u s)) (some_is y.0 r (sym (held q u y.0 a y.1) ∙ f))
+            ok.prior_now q u y.0 a on y.1 clear ∙ ap {B = Option Occurrence} (λ s. some (occurrence u s)) (some_is y.0 r (sym (held q u y.0 a y.1) ∙ f))
         old q u r a on clear f (inr (inr y)) = never y.0 (sym clear ∙ y.1)
 
         now : (q : ℕ) (u : UniqueId) (r : Bytes) → at us q ≡ some u → has enabled u.identifier ≡ true →
             (since q ≡ some r) ⊎ ((since q ≡ none) × (find u es ≡ some r)) → Now b q u r
-        now q u r a on (inl y) = ok.since-now q u r a on y
+        now q u r a on (inl y) = ok.since_now q u r a on y
         now q u r a on (inr y) = old q u r a on y.0 y.1 (x.now q u r a on y.1)
 
         had : (u : UniqueId) (r : Bytes) → At us since u r ⊎ (find u es ≡ some r) → (q : ℕ) × Had (b ∷ d) q (occurrence u r)
-        had u r (inl y) = (y.0, inr (x.since-had y.0 u r y.1 y.2))
+        had u r (inl y) = (y.0, inr (x.since_had y.0 u r y.1 y.2))
         had u r (inr y) = let z = x.had u r y in (z.0, inr z.1)
 
     -- in Off: nothing is enabled
@@ -141,8 +141,8 @@ module _ (us : List UniqueId) (laws : Laws us) where
     off_shows quiet x = record {
       now = λ q u r a on f. absurd (false≢true (sym (quiet.0 u.identifier) ∙ on));
       had = λ u r f. had u r (merge_source us unmarked es u r f);
-      prior_had = λ q u r a y. inr (x.prior-had q u r a y);
-      since_had = λ q u r a y. inr (x.since-had q u r a y);
+      prior_had = λ q u r a y. inr (x.prior_had q u r a y);
+      since_had = λ q u r a y. inr (x.since_had q u r a y);
     }
       where
         had : (u : UniqueId) (r : Bytes) → At us unmarked u r ⊎ (find u es ≡ some r) → (q : ℕ) × Had (b ∷ d) q (occurrence u r)

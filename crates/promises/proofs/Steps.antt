@@ -180,8 +180,8 @@ module _ (us : List UniqueId) (laws : Laws us) (e : Endpoint) (b : Sources) (ok 
       event-shows x = record {
         now = λ q u r a on f. now q u r a on (merge-at us laws.distinct e.prior es u q a r f);
         had = λ u r f. had u r (merge_source us e.prior es u r f);
-        prior_had = λ q u r a y. inr (x.prior-had q u r a y);
-        since_had = λ q u r a y. inr (x.since-had q u r a y);
+        prior_had = λ q u r a y. inr (x.prior_had q u r a y);
+        since_had = λ q u r a y. inr (x.since_had q u r a y);
       }
         where
           now : (q : ℕ) (u : UniqueId) (r : Bytes) → at us q ≡ some u → has e.enabled u.identifier ≡ true →
@@ -190,7 +190,7 @@ module _ (us : List UniqueId) (laws : Laws us) (e : Endpoint) (b : Sources) (ok 
           now q u r a on (inr y) = x.now q u r a on y.1
 
           had : (u : UniqueId) (r : Bytes) → At us e.prior u r ⊎ (find u es ≡ some r) → (q : ℕ) × Had (b ∷ d) q (occurrence u r)
-          had u r (inl y) = (y.0, inr (x.prior-had y.0 u r y.1 y.2))
+          had u r (inl y) = (y.0, inr (x.prior_had y.0 u r y.1 y.2))
           had u r (inr y) = let z = x.had u r y in (z.0, inr z.1)
 
       learned : (generation : ℕ) (test : Bool) → NotArmed e.state → Knows us d es e b l → (a : Option Bytes) →
