@@ -9,7 +9,7 @@ use Rattle.wire.proofs.MessagesBack.{events_read_back, answers_read_back}
 use Rattle.protocol.specs.declared.types.Phase.{Phase}
 use Rattle.protocol.specs.declared.types.Phase.TheVariants.{Blind, Settled, Holding, Waiting}
 use Rattle.protocol.specs.Book.{Book, book_turn, blind, awaits}
-use Rattle.protocol.specs.Pair.{Pair, Call, gives_up, step, run}
+use Rattle.protocol.specs.Pair.{Pair, Call, gives_up, run}
 use Rattle.protocol.specs.Masking.{compared}
 use Rattle.protocol.specs.Promise.{Alike, SyncStartsAnew}
 use Rattle.promises.proofs.Anew.{sync-starts-anew}

@@ -7,7 +7,7 @@ use Rattle.event.specs.Outcomes.{refusal, over_front}
 use Rattle.carrier.specs.Carriers.{fetched, fetched_into}
 use Rattle.wire.specs.declared.types.Kind.{Kind}
 use Rattle.wire.specs.Messages.{Answer, read_answer}
-use Rattle.protocol.specs.Book.{Book, BookTurn, book_turn, awaits, answer_read, take_answer}
+use Rattle.protocol.specs.Book.{Book, BookTurn, book_turn, awaits, answer_read}
 use Rattle.protocol.specs.Pair.{Pair, pair_of, Call, fetches}
 use Rattle.protocol.proofs.Fetches.{fetch-result, fetch-buffer}
 use Rattle.book.specs.declared.parts.Receipt.{Receipt}

@@ -1,8 +1,7 @@
 -- A run, by the calls that are left. Assumes nothing.
-use Rattle.std.proofs.Common.{◌≡◌, ℕ, zero, suc, ◌+◌, ◌<◌, ◌≤◌, List, [], ◌∷◌, ◌++◌, map, length, get_or, take, drop, set, Some, None, Option, sym, refl, ap, ◌∙◌, subst, arith}
+use Rattle.std.proofs.Common.{◌≡◌, ℕ, zero, suc, ◌+◌, ◌<◌, ◌≤◌, List, [], ◌∷◌, ◌++◌, length, get_or, take, drop, set, Some, None, Option, sym, refl, ap, ◌∙◌, subst, arith}
 use Rattle.std.proofs.lemmas.List.{drop_more, drop_all, take_more_set, take-append-drop, append_assoc, length-map, map-set, get_or-map}
-use Rattle.event.specs.Outcomes.{Outcome}
-use Rattle.protocol.specs.Pair.{Pair, Call, step, run, outcomes}
+use Rattle.protocol.specs.Pair.{Pair, Call, run, outcomes}
 use Rattle.pair.specs.declared.call.Task.{Task}
 use Rattle.pair.specs.declared.record.Record.{Record}
 use Rattle.pair.specs.View.{step_if, outcome_if}

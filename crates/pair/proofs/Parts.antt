@@ -1,12 +1,12 @@
 -- A call of a run works in the front part of its record's buffer. Assumes nothing.
-use Rattle.std.proofs.Common.{◌≡◌, ℕ, ◌+◌, ◌-◌, ◌≤◌, List, [], ◌∷◌, ◌++◌, length, take, drop, Option, Result, sym, refl, ap, ◌∙◌, subst, arith, length-append}
+use Rattle.std.proofs.Common.{◌≡◌, ℕ, ◌+◌, ◌≤◌, ◌++◌, length, take, drop, Option, Result, sym, ap, ◌∙◌, subst, arith, length-append}
 use Rattle.std.proofs.lemmas.List.{length-take-le, length-drop, take-append-drop, drop-append-le, append_assoc}
 use Rattle.event.specs.declared.refusal.Refusal.{Refusal}
 use Rattle.event.specs.Bytes.{Bytes}
-use Rattle.event.specs.Outcomes.{Outcome, over_front}
+use Rattle.event.specs.Outcomes.{over_front}
 use Rattle.protocol.specs.Pair.{Pair, Call}
 use Rattle.pair.specs.declared.call.Task.{Task}
-use Rattle.pair.specs.View.{Steps, call_to, step_if, outcome_if, result_if, written_if}
+use Rattle.pair.specs.View.{Steps, call_to, outcome_if, result_if, written_if}
 use Rattle.pair.specs.Runs.{room_of, call_for, Note, note_after}
 
 -- what is written to the front of a part is written to the front of the whole

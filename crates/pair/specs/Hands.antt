@@ -7,7 +7,6 @@ use Rattle.protocol.specs.declared.types.Phase.{Phase}
 use Rattle.protocol.specs.declared.types.Phase.TheVariants.{Blind, Settled, Holding, Waiting}
 use Rattle.protocol.specs.Book.{Book, BookTurn, same_kind, take_answer, give_up}
 use Rattle.book.specs.declared.parts.Receipt.{Receipt}
-use Rattle.book.specs.Turns.{Spends}
 
 -- is the receipt, if there is one, of the request that is awaited, if one is?
 abbrev pub tied : Option Receipt → Phase → Bool

@@ -1,5 +1,5 @@
 -- Boards by place: their unique IDs, and what a set leaves. Assumes nothing.
-use Rattle.std.proofs.Common.{◌≡◌, ℕ, zero, suc, Bool, true, false, cond, [], ◌∷◌, Some as some, None as none, Option, refl, ap, ◌∙◌}
+use Rattle.std.proofs.Common.{◌≡◌, ℕ, zero, suc, true, false, cond, [], ◌∷◌, Some as some, None as none, Option, refl, ap, ◌∙◌}
 use Rattle.event.specs.declared.id.UniqueId.{UniqueId}
 use Rattle.event.specs.Bytes.{Bytes}
 use Rattle.event.specs.Sources.{Occurrence, occurrence, lawful_reading}

@@ -15,7 +15,7 @@ use Rattle.wire.specs.Requests.{Request, Sync, Ack, request_of}
 use Rattle.carrier.specs.Carriers.{Line}
 use Rattle.protocol.specs.declared.types.State.{State}
 use Rattle.protocol.specs.declared.types.State.TheVariants.{Off, Armed, Sending, Failed}
-use Rattle.protocol.specs.Endpoint.{Endpoint, in_state, flagged, begun, mark, changed, change, tick, turn, reported, reply, acknowledge, accept, refusal_of, requested}
+use Rattle.protocol.specs.Endpoint.{Endpoint, in_state, flagged, begun, mark, change, tick, turn, reported, reply, acknowledge, accept, refusal_of, requested}
 use Rattle.protocol.specs.Pair.{
   Pair,
   new_pair,

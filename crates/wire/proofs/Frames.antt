@@ -1,7 +1,7 @@
 -- A head, a list and the check word: such bytes are read back, and are the only ones. Assumes nothing.
-use Rattle.std.proofs.Common.{◌≡◌, ℕ, ◌+◌, ◌-◌, ◌<◌, ◌≤◌, min, Bool, true, false, cond, ◌&&◌, List, [], ◌∷◌, ◌++◌, length, take, drop, sym, refl, ap, ◌∙◌, subst, arith, length-drop, take-append-drop, length-take}
+use Rattle.std.proofs.Common.{◌≡◌, ◌-◌, ◌<◌, ◌≤◌, Bool, true, ◌&&◌, [], ◌∷◌, ◌++◌, length, take, drop, sym, refl, ap, ◌∙◌, arith, length-drop, take-append-drop, length-take}
 use Rattle.std.proofs.lemmas.Bool.{and_parts, and_from}
-use Rattle.std.proofs.lemmas.List.{take_at, drop_at, length-append, take-take}
+use Rattle.std.proofs.lemmas.List.{take_at, drop_at, take-take}
 use Rattle.crc.specs.Crc.{crc32c}
 use Rattle.event.specs.Bytes.{Bytes, le32, same_bytes}
 use Rattle.event.proofs.SameBytes.{same_refl, same_is}

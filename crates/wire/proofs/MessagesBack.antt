@@ -1,11 +1,10 @@
 -- Event messages and answers read back, and are the only encodings. Assumes nothing.
-use Rattle.std.proofs.Common.{◌≡◌, ℕ, ◌+◌, ◌-◌, ◌*◌, ◌/◌, ◌%◌, ◌<◌, ◌≤◌, Bool, true, false, cond, ◌&&◌, eqb, List, [], ◌∷◌, ◌++◌, length, take, drop, Some, None, Decides, Option, sym, refl, ap, ◌∙◌, subst, arith, length-take}
+use Rattle.std.proofs.Common.{◌≡◌, ℕ, ◌+◌, ◌-◌, ◌*◌, ◌/◌, ◌%◌, ◌<◌, ◌≤◌, Bool, true, false, cond, ◌&&◌, eqb, [], ◌++◌, length, take, drop, Some, None, Decides, Option, sym, refl, ap, ◌∙◌, subst, arith, length-take}
 use Rattle.std.proofs.lemmas.List.{length-append, drop_all, drop-take}
 use Rattle.std.proofs.lemmas.Bool.{eqb-true}
-use Rattle.event.specs.Bytes.{Bytes, byte, same_bytes}
+use Rattle.event.specs.Bytes.{Bytes, same_bytes}
 use Rattle.list.specs.Lists.{Told, these, overflow, Listing, listing, header, body, lawful_told, list_bytes, tells, read_list}
 use Rattle.event.proofs.SameBytes.{same_decides}
-use Rattle.list.specs.Laws.{Encodes}
 use Rattle.list.proofs.Back.{reads_back}
 use Rattle.list.proofs.Only.{only_encoding}
 use Rattle.wire.specs.Checks.{checked, unchecked, is_checked}

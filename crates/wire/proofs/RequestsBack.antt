@@ -1,10 +1,9 @@
 -- Requests that the book writes are accepted, and read as they were meant. Assumes nothing.
-use Rattle.std.proofs.Common.{◌≡◌, ℕ, ◌+◌, ◌-◌, ◌*◌, ◌/◌, ◌%◌, ◌≤◌, Bool, true, false, cond, ◌&&◌, eqb, leb, List, [], ◌∷◌, ◌++◌, length, drop, Some, None, Ok, Err, Result, sym, refl, ap, ◌∙◌, ap₂, arith}
+use Rattle.std.proofs.Common.{◌≡◌, ℕ, ◌+◌, ◌-◌, ◌/◌, ◌%◌, ◌≤◌, Bool, true, false, cond, ◌&&◌, eqb, leb, List, [], ◌∷◌, ◌++◌, length, Some, None, Ok, refl, ap, ◌∙◌, ap₂, arith}
 use lib.Dec.{eqb-suc-zero}
-use Rattle.std.proofs.lemmas.List.{take_at, length-append}
+use Rattle.std.proofs.lemmas.List.{take_at}
 use Rattle.std.proofs.lemmas.Bool.{and_from}
 use Rattle.std.proofs.lemmas.Bool.Decides.{nat_tests}
-use Rattle.event.specs.declared.refusal.Refusal.{Refusal}
 use Rattle.crc.specs.Crc.{crc32c}
 use Rattle.event.specs.Bytes.{Bytes, byte, le32}
 use Rattle.event.specs.Refusals.{Question, first_no}
@@ -13,7 +12,7 @@ use Rattle.wire.specs.Checks.{checked, is_checked}
 use Rattle.wire.specs.Messages.{slot_of}
 use Rattle.wire.specs.declared.types.Kind.{Kind}
 use Rattle.wire.specs.declared.types.Kind.TheVariants.{Sync as sync, Ack as ack}
-use Rattle.wire.specs.Requests.{Request, Sync, Ack, item_bytes, items_bytes, enable_list, request_head, request_message, item_count, total_length, header_length, items_part, items_fit, items_in, kind_of, request_as, request_of, read_as, read_request, request_questions, request_refusal}
+use Rattle.wire.specs.Requests.{Sync, Ack, items_bytes, enable_list, request_head, request_message, item_count, total_length, header_length, items_part, items_fit, items_in, kind_of, request_as, request_of, read_as, read_request, request_questions, request_refusal}
 use Rattle.wire.specs.Laws.{SyncsReadBack, AcksReadBack}
 use Rattle.wire.proofs.Buffers.{length-checked}
 use Rattle.wire.proofs.Frames.{checked-is}

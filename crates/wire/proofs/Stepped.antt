@@ -1,8 +1,7 @@
 -- The items of an enable list, one step at a time. Assumes nothing.
-use Rattle.std.proofs.Common.{◌≡◌, ℕ, zero, suc, ◌-◌, ◌<◌, Bool, true, false, cond, ◌&&◌, List, [], ◌∷◌, length, take, drop, sym, refl, ap, ◌∙◌, arith}
+use Rattle.std.proofs.Common.{◌≡◌, ℕ, zero, suc, ◌-◌, ◌<◌, Bool, true, false, cond, ◌&&◌, [], ◌∷◌, length, take, drop, sym, refl, ap, ◌∙◌, arith}
 use Rattle.std.proofs.lemmas.List.{take_rest}
 use Rattle.event.specs.Bytes.{Bytes, byte}
-use Rattle.wire.specs.declared.types.Item.{Item}
 use Rattle.wire.specs.Requests.{has_item, item_at, items_fit, items_in}
 
 -- what is left behind the first item, as a part of a slice

@@ -1,5 +1,5 @@
 -- Event messages and answers: how they are written, and what is read of them. Assumes nothing.
-use Rattle.std.specs.Prelude.{ℕ, ◌+◌, ◌/◌, ◌%◌, Bool, cond, ◌&&◌, List, [], ◌∷◌, ◌++◌, length, take, drop, Some, None, Option, ◌==◌}
+use Rattle.std.specs.Prelude.{ℕ, ◌+◌, ◌/◌, ◌%◌, Bool, cond, ◌&&◌, [], ◌∷◌, ◌++◌, length, take, drop, Some, None, Option, ◌==◌}
 use Rattle.event.specs.Bytes.{Bytes, byte, same_bytes}
 use Rattle.list.specs.Lists.{Told, Listing, list_bytes, read_list}
 use Rattle.wire.specs.Checks.{checked, unchecked, is_checked}

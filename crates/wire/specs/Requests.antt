@@ -1,5 +1,5 @@
 -- Requests, sync and ack: how the book writes them, and what the endpoint asks of them. Assumes nothing.
-use Rattle.std.specs.Prelude.{ℕ, zero, suc, ◌+◌, ◌-◌, ◌/◌, ◌%◌, Bool, true, false, cond, ◌&&◌, List, [], ◌∷◌, ◌++◌, length, take, drop, Some, None, Ok, Err, Option, Result, ◌==◌, nat_le}
+use Rattle.std.specs.Prelude.{ℕ, zero, suc, ◌+◌, ◌-◌, ◌/◌, ◌%◌, Bool, true, cond, ◌&&◌, List, [], ◌∷◌, ◌++◌, length, take, drop, Some, None, Ok, Err, Option, Result, ◌==◌, nat_le}
 use Rattle.event.specs.Bytes.{Bytes, byte, le16, two, within}
 use Rattle.event.specs.Refusals.{Question, ask, first_no}
 use Rattle.event.specs.declared.refusal.Refusal.{Refusal}

@@ -1,11 +1,10 @@
 -- What the values of the reader stand for. Assumes nothing.
 use Rattle.std.specs.Prelude.{List, Some, None, Ok, Err, Option, Result}
-use Rattle.event.specs.Bytes.{Bytes}
 use Rattle.event.specs.declared.refusal.Refusal.{Refusal}
 use Rattle.event.specs.declared.refusal.Refusal.TheVariants.{UnlawfulMessage, UnlawfulAnswer}
 use Rattle.list.specs.View.{told_by}
-use Rattle.wire.specs.Messages.{Event as EventRead, read_event, Answer as AnswerRead, read_answer}
-use Rattle.wire.specs.Requests.{Request, Sync as sync_read, Ack as ack_read, items_in, read_request}
+use Rattle.wire.specs.Messages.{Event as EventRead, Answer as AnswerRead}
+use Rattle.wire.specs.Requests.{Request, Sync as sync_read, Ack as ack_read, items_in}
 use Rattle.wire.specs.declared.types.Item.{Item}
 use Rattle.wire.specs.declared.types.Items.{Items}
 use Rattle.wire.specs.declared.types.Message.{Message}

@@ -1,4 +1,4 @@
-use Rattle.std.proofs.Common.{◌≡◌, sym, ◌∙◌, arith}
+use Rattle.std.proofs.Common.{sym, ◌∙◌, arith}
 use Rattle.wire.proofs.Stepped.{fit_none, fit_more, fit_end}
 use Rattle.wire.proofs.items.items_fit.Goals as goal
 

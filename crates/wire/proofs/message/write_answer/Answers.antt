@@ -1,4 +1,4 @@
-use Rattle.std.proofs.Common.{◌≡◌, ℕ, ◌+◌, ◌-◌, ◌≤◌, List, [], ◌∷◌, ◌++◌, length, take, drop, sym, refl, ap, ◌∙◌, arith, length-drop, length-take, rules}
+use Rattle.std.proofs.Common.{◌≡◌, ◌+◌, ◌-◌, ◌≤◌, ◌++◌, length, take, drop, refl, ap, ◌∙◌, arith, length-drop, length-take, rules}
 use Rattle.std.proofs.lemmas.List.{length-append}
 use Rattle.event.specs.Bytes.{Bytes, placed}
 use Rattle.event.specs.declared.refusal.Refusal.TheVariants.{AnswerBufferShort}

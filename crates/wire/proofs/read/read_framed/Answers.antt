@@ -1,4 +1,4 @@
-use Rattle.std.proofs.Common.{◌≡◌, sym, ◌∙◌, arith}
+use Rattle.std.proofs.Common.{sym, ◌∙◌, arith}
 use Rattle.std.proofs.lemmas.Slice.Eq.{slice_eq-Decides}
 use Rattle.wire.proofs.MessagesBack.{too_short, not_starting, not_checked, the_list, starting}
 use Rattle.wire.proofs.read.read_framed.Goals as goal

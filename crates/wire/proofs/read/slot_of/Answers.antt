@@ -1,4 +1,4 @@
-use Rattle.std.proofs.Common.{◌≡◌, ℕ, ◌%◌, eqb, sym, ap, arith}
+use Rattle.std.proofs.Common.{ℕ, ◌%◌, eqb, sym, ap, arith}
 use lib.ListN.{get_or-eq_default}
 use Rattle.wire.proofs.read.slot_of.Goals as goal
 

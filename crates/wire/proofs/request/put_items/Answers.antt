@@ -1,8 +1,7 @@
-use Rattle.std.proofs.Common.{◌≡◌, ℕ, ◌+◌, ◌*◌, ◌<◌, ◌≤◌, false, List, [], ◌∷◌, ◌++◌, length, get_or, drop, sym, refl, ap, ◌∙◌, arith}
+use Rattle.std.proofs.Common.{◌≡◌, ◌+◌, false, [], ◌∷◌, ◌++◌, get_or, drop, sym, ap, ◌∙◌, arith}
 use Rattle.std.proofs.lemmas.List.{drop_more, drop_all}
 use Rattle.event.specs.Bytes.{Bytes, placed}
 use Rattle.event.proofs.Placed.{placed-placed, placed-none}
-use Rattle.wire.specs.declared.types.Item.{Item}
 use Rattle.wire.specs.Requests.{item_bytes, items_bytes}
 use Rattle.wire.proofs.ItemLists.{first_item, no_items}
 use Rattle.wire.proofs.request.put_items.Goals as goal

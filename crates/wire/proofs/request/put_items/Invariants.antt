@@ -1,4 +1,4 @@
-use Rattle.std.proofs.Common.{◌≡◌, ◌+◌, ◌*◌, ◌≤◌, length, drop}
+use Rattle.std.proofs.Common.{◌≡◌, ◌+◌, ◌*◌, drop}
 use Rattle.event.specs.Bytes.{placed}
 use Rattle.wire.specs.Requests.{items_bytes}
 use Rattle.wire.proofs.request.put_items.Given as goal

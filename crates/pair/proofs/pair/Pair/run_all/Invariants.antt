@@ -1,4 +1,4 @@
-use Rattle.std.proofs.Common.{◌≡◌, length, drop}
+use Rattle.std.proofs.Common.{◌≡◌, drop}
 use Rattle.pair.specs.View.{pair_in}
 use Rattle.pair.specs.Runs.{replies_to, notes_of, notes_after}
 use Rattle.pair.proofs.Loops.{end_of, recorded}
