@@ -36,6 +36,8 @@ def code(line):
 specs, lemmas, imported = set(), set(), set()
 every = set()
 DEF = re.compile(r"^\s*(?:abbrev\s+|unfoldable\s+)?(?:pub\s+)?(?:data\s+|record\s+)?(" + TOKEN.pattern + r")\s*(?::|\(|\{)")
+# constructors that are declared together
+SEVERAL = re.compile(r"^\s+((?:[a-z]\w* )+[a-z]\w*) : ")
 for p in antt:
     own = os.path.basename(p) not in ANSWERS
     for line in texts[p].splitlines():
@@ -43,6 +45,8 @@ for p in antt:
         every.update(TOKEN.findall(c))
         if re.match(r"\s*use\s+(Rattle\.std|borrow|lib|native|mathlib)\b", c):
             imported.update(TOKEN.findall(c.split("{", 1)[1] if "{" in c else ""))
+        for several in SEVERAL.finditer(c):
+            (specs if "/specs/" in p else lemmas).update(several.group(1).split())
         m = DEF.match(c)
         if not m or re.match(r"\s*(use|let|in|where|module|unfolding|open)\b", c):
             continue
@@ -81,11 +85,11 @@ for n in sorted(specs | lemmas):
         if snake(n) != n:
             mapping[n] = snake(n)
 names = {mapping.get(n, n) for n in specs} | STD
-for n in sorted(lemmas):
+for n in sorted(lemmas | specs):
     if "-" not in n or n[0].isupper() or n in imported:
         continue
     parts = [snake(w) for w in n.split("-")]
-    out = ("-" if all(w in names for w in parts) else "_").join(parts)
+    out = ("-" if n not in specs and all(w in names for w in parts) else "_").join(parts)
     taken = (every - {n}) | set(mapping.values()) | imported
     if out in taken:
         out = "-".join(parts)

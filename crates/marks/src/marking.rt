@@ -1,5 +1,5 @@
 //! Marking sources, and how many are marked.
-ghost use Rattle.std.specs.Prelude.{◌≡◌, ◌%◌, ◌^◌, ◌<◌, ◌≤◌, true, ltb, length, if◌then◌else◌, Some, count_ones, nat_lt};
+ghost use Rattle.std.specs.Prelude.{◌≡◌, ◌%◌, ◌^◌, ◌<◌, ◌≤◌, true, length, if◌then◌else◌, Some, count_ones, nat_lt};
 ghost use Rattle.event.specs.Identifiers.{bit};
 ghost use Rattle.event.specs.View.{held, held_if};
 ghost use Rattle.board.specs.Boards.{ids};
@@ -33,7 +33,7 @@ impl Marks {
     /// nothing changes.
     pub fn mark(&mut self, place: usize, reading: Reading) -> bool
         ensures taken { result ≡ nat_lt place 64 }
-        ensures after { marks_of self.new ≡ (if ltb place 64 then update (marks_of self.old) place (Some (held reading)) else marks_of self.old) }
+        ensures after { marks_of self.new ≡ (if nat_lt place 64 then update (marks_of self.old) place (Some (held reading)) else marks_of self.old) }
     {
         if place >= 64 {
             return false;

@@ -12,8 +12,8 @@ use Rattle.protocol.specs.Pair.{
   Call,
   changes,
   ticks,
-  linkGoesUp,
-  linkGoesDown,
+  link_goes_up,
+  link_goes_down,
   loses,
   writes_sync,
   writes_ack,
@@ -66,8 +66,8 @@ give_up_if (Some kind) = Some (gives_up kind)
 abbrev pub call_of : Option Kind → (room : ℕ) → Told → Option Call
 call_of kind room (Change place reading) = Some (changes place reading.now)
 call_of kind room Tick = Some (ticks room)
-call_of kind room LinkUp = Some linkGoesUp
-call_of kind room LinkDown = Some linkGoesDown
+call_of kind room LinkUp = Some link_goes_up
+call_of kind room LinkDown = Some link_goes_down
 call_of kind room Lose = Some loses
 call_of kind room (WriteSync items delay retry) = Some (writes_sync items.now delay.0 retry.0 room)
 call_of kind room WriteAck = Some (writes_ack room)

@@ -33,8 +33,8 @@ use Rattle.protocol.specs.Pair.{
   Call,
   changes,
   ticks,
-  linkGoesUp,
-  linkGoesDown,
+  link_goes_up,
+  link_goes_down,
   loses,
   writes_sync,
   writes_ack,
@@ -147,8 +147,8 @@ module _ (us : List UniqueId) (p : Pair) (x : Basic us p) where
     small = change_small (at (ids p.board) place) place r p.endpoint x.small;
   }
   step_basic (ticks room) = acted_basic _ _ _ (tick_small (ids p.board) room p.line p.endpoint x.small)
-  step_basic linkGoesUp = acted_basic _ _ _ x.small
-  step_basic linkGoesDown = acted_basic _ _ _ x.small
+  step_basic link_goes_up = acted_basic _ _ _ x.small
+  step_basic link_goes_down = acted_basic _ _ _ x.small
   step_basic loses = acted_basic _ _ _ x.small
   step_basic (writes_sync items delay retry room) = written_basic (first_no (sync_questions p.book.phase room items)) sync (request_message delay retry items)
   step_basic (writes_ack room) = written_basic (first_no (ack_questions p.book.phase room)) ack (request_message 0 0 [])

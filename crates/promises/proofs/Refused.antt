@@ -29,7 +29,7 @@ use Rattle.carrier.specs.Carriers.{Message}
 use Rattle.protocol.specs.declared.types.Phase.{Phase}
 use Rattle.protocol.specs.Endpoint.{change, changed, change_outcome, timed, tick, Turn, turn, refusal_of, requested}
 use Rattle.protocol.specs.Book.{blind, BookTurn, book_turn, awaits, sync_questions, ack_questions, writes, answer_read, remembers, hears, heard, found, finds, pick_up_questions, show_questions, reads, shown}
-use Rattle.protocol.specs.Pair.{Pair, pair_of, Step, changes, ticks, linkGoesUp, linkGoesDown, loses, writes_sync, writes_ack, requests, answers, gives_up, picks_up, fetches, shows, resets, acted, noted, rested, lies}
+use Rattle.protocol.specs.Pair.{Pair, pair_of, Step, changes, ticks, link_goes_up, link_goes_down, loses, writes_sync, writes_ack, requests, answers, gives_up, picks_up, fetches, shows, resets, acted, noted, rested, lies}
 use Rattle.protocol.specs.Refused.{message_bytes, Leaves, RefusalsLeave}
 use Rattle.promises.proofs.Boards.{set_unlawful, set_past}
 use Rattle.promises.proofs.Lists.{some_is, never}
@@ -177,8 +177,8 @@ request_quiet room bytes r e = go (leb 4115 room) e
 pub refusals-leave : RefusalsLeave
 refusals-leave p (changes place x) r e = change-leaves p (at (ids p.board) place) place x refl r e
 refusals-leave p (ticks room) r e = tick-leaves p room r e
-refusals-leave p linkGoesUp r e = succeeded 0 r e
-refusals-leave p linkGoesDown r e = succeeded 0 r e
+refusals-leave p link_goes_up r e = succeeded 0 r e
+refusals-leave p link_goes_down r e = succeeded 0 r e
 refusals-leave p loses r e = succeeded 0 r e
 refusals-leave p (writes_sync items delay retry room) r e =
     written-leaves p (first_no (sync_questions p.book.phase room items)) sync (request_message delay retry items) (first_quiet (sync_questions p.book.phase room items) refl) r e

@@ -22,8 +22,8 @@ use Rattle.protocol.specs.Pair.{
   Call,
   changes,
   ticks,
-  linkGoesUp,
-  linkGoesDown,
+  link_goes_up,
+  link_goes_down,
   loses,
   writes_sync,
   writes_ack,
@@ -57,8 +57,8 @@ during false s = has_sent s
 abbrev given_by : Call → Option Bytes
 given_by (changes q r) = some r
 given_by (ticks room) = none
-given_by linkGoesUp = none
-given_by linkGoesDown = none
+given_by link_goes_up = none
+given_by link_goes_down = none
 given_by loses = none
 given_by (writes_sync items delay retry room) = none
 given_by (writes_ack room) = none
@@ -159,8 +159,8 @@ step_part : (which : Bool) (place : ℕ) (p : Pair) (c : Call) → part which (s
 unfolding unmarked
 step_part which place p (changes q r) = change_part which place q r (at (ids p.board) q) p.endpoint
 step_part which place p (ticks room) = ap (λ (m : Marking). m place) (tick_part which (ids p.board) room p.line p.endpoint)
-step_part which place p linkGoesUp = refl
-step_part which place p linkGoesDown = refl
+step_part which place p link_goes_up = refl
+step_part which place p link_goes_down = refl
 step_part which place p loses = refl
 step_part which place p (writes_sync items delay retry room) = refl
 step_part which place p (writes_ack room) = refl
@@ -180,8 +180,8 @@ is-change place p (changes q s) r x e =
     let is : s ≡ r = some_is s r e in
     λ i. changes (sym same i) (is i)
 is-change place p (ticks room) r x e = absurd (false≢true x)
-is-change place p linkGoesUp r x e = absurd (false≢true x)
-is-change place p linkGoesDown r x e = absurd (false≢true x)
+is-change place p link_goes_up r x e = absurd (false≢true x)
+is-change place p link_goes_down r x e = absurd (false≢true x)
 is-change place p loses r x e = absurd (false≢true x)
 is-change place p (writes_sync items delay retry room) r x e = absurd (false≢true x)
 is-change place p (writes_ack room) r x e = absurd (false≢true x)

@@ -20,8 +20,8 @@ use Rattle.protocol.specs.Pair.{
   Call,
   changes,
   ticks,
-  linkGoesUp,
-  linkGoesDown,
+  link_goes_up,
+  link_goes_down,
   loses,
   writes_sync,
   writes_ack,
@@ -71,8 +71,8 @@ leaves_empty p (requests sender bytes room) x = request_empty p (refusal_of room
 leaves_empty p resets x = (inr refl, refl, refl, refl)
 leaves_empty p (changes place r) x = absurd (false≢true x)
 leaves_empty p (ticks room) x = absurd (false≢true x)
-leaves_empty p linkGoesUp x = absurd (false≢true x)
-leaves_empty p linkGoesDown x = absurd (false≢true x)
+leaves_empty p link_goes_up x = absurd (false≢true x)
+leaves_empty p link_goes_down x = absurd (false≢true x)
 leaves_empty p loses x = absurd (false≢true x)
 leaves_empty p (writes_sync items delay retry room) x = absurd (false≢true x)
 leaves_empty p (writes_ack room) x = absurd (false≢true x)
@@ -108,5 +108,5 @@ only_so p c before after = go (starts_over c p) refl
     go true is = refl
     go false is = absurd (true≢false (sym after ∙ unarmed (goes p c is)))
 
-pub starting-over : StartingOver
-starting-over = record { leaves = leaves_empty; only = only_so }
+pub starting_over : StartingOver
+starting_over = record { leaves = leaves_empty; only = only_so }

@@ -51,8 +51,8 @@ use Rattle.protocol.specs.Pair.{
   Call,
   changes,
   ticks,
-  linkGoesUp,
-  linkGoesDown,
+  link_goes_up,
+  link_goes_down,
   loses,
   writes_sync,
   writes_ack,
@@ -140,8 +140,8 @@ goes p (ticks room) x = go (leb 4111 room) refl
         inl
         (is, subst (λ v. Stills p.endpoint (cond v t (turn p.endpoint p.line (refusal TickBufferShort))).endpoint) (sym is) (unmoved p.endpoint))
 goes p (changes place r) x = inl (refl, change_stills (at (ids p.board) place) place r p.endpoint)
-goes p linkGoesUp x = inl (refl, unmoved p.endpoint)
-goes p linkGoesDown x = inl (refl, unmoved p.endpoint)
+goes p link_goes_up x = inl (refl, unmoved p.endpoint)
+goes p link_goes_down x = inl (refl, unmoved p.endpoint)
 goes p loses x = inl (refl, unmoved p.endpoint)
 goes p (writes_sync items delay retry room) x = inl (refl, unmoved p.endpoint)
 goes p (writes_ack room) x = inl (refl, unmoved p.endpoint)
@@ -157,8 +157,8 @@ goes p resets x = absurd (true≢false x)
 ids_step : (p : Pair) (c : Call) → ids (step p c).pair.board ≡ ids p.board
 ids_step p (changes place r) = ids-after p.board place r
 ids_step p (ticks room) = refl
-ids_step p linkGoesUp = refl
-ids_step p linkGoesDown = refl
+ids_step p link_goes_up = refl
+ids_step p link_goes_down = refl
 ids_step p loses = refl
 ids_step p (writes_sync items delay retry room) = refl
 ids_step p (writes_ack room) = refl
@@ -568,8 +568,8 @@ step_rises p (changes place r) = let x = change_stills (at (ids p.board) place) 
 step_rises p (ticks room) =
     either (λ t. Rises p.endpoint t.endpoint) (leb 4111 room) (timed (ids p.board) p.endpoint.state p.line p.endpoint) (turn p.endpoint p.line (refusal TickBufferShort))
     (timed_rises (ids p.board) p.line p.endpoint.state p.endpoint refl) (rests_rises p.endpoint p.endpoint refl refl)
-step_rises p linkGoesUp = rests_rises p.endpoint p.endpoint refl refl
-step_rises p linkGoesDown = rests_rises p.endpoint p.endpoint refl refl
+step_rises p link_goes_up = rests_rises p.endpoint p.endpoint refl refl
+step_rises p link_goes_down = rests_rises p.endpoint p.endpoint refl refl
 step_rises p loses = rests_rises p.endpoint p.endpoint refl refl
 step_rises p (writes_sync items delay retry room) = rests_rises p.endpoint p.endpoint refl refl
 step_rises p (writes_ack room) = rests_rises p.endpoint p.endpoint refl refl

@@ -48,7 +48,7 @@ use Rattle.protocol.specs.Book.{
   finds,
   pick_up_questions,
 }
-use Rattle.protocol.specs.Pair.{Pair, pair_of, new_pair, Call, changes, ticks, linkGoesUp, linkGoesDown, loses, writes_sync, writes_ack, requests, answers, gives_up, picks_up, fetches, shows, resets, acted, noted, step, run}
+use Rattle.protocol.specs.Pair.{Pair, pair_of, new_pair, Call, changes, ticks, link_goes_up, link_goes_down, loses, writes_sync, writes_ack, requests, answers, gives_up, picks_up, fetches, shows, resets, acted, noted, step, run}
 use Rattle.protocol.specs.History.{History, new_history, while_waiting, later, completes, begins, wrote, accepts as record_acceptance, after_call, after_calls}
 use Rattle.protocol.specs.Promise.{Fair, Given, Marked, Had, PresentOrMarked, WasSo}
 use Rattle.board.proofs.Rereads.{at-ids}
@@ -375,8 +375,8 @@ module _ (p : Pair) (h : History) (laws : Laws (ids p.board)) (x : Inv (ids p.bo
   keeps (ticks room) fair =
       let t = tick (ids p.board) room p.line p.endpoint in
       acted_keeps (ids p.board) p h p.board t.endpoint t.line (tick_keeps (ids p.board) p.board p.line room p.endpoint x.0) x
-  keeps linkGoesUp fair = idles (ids p.board) p h (linked_up p.line) (λ o. o) x
-  keeps linkGoesDown fair = idles (ids p.board) p h (linked_down p.line) (λ o m is. never m is) x
+  keeps link_goes_up fair = idles (ids p.board) p h (linked_up p.line) (λ o. o) x
+  keeps link_goes_down fair = idles (ids p.board) p h (linked_down p.line) (λ o m is. never m is) x
   keeps loses fair = idles (ids p.board) p h (withdrawn p.line) (λ o m is. never m is) x
   keeps (writes_sync items delay retry room) fair = sync-written items delay retry room (first_no (sync_questions p.book.phase room items)) refl
   keeps (writes_ack room) fair = ack-written room (first_no (ack_questions p.book.phase room)) refl

@@ -80,8 +80,8 @@ use Rattle.protocol.specs.Pair.{
   Call,
   changes,
   ticks,
-  linkGoesUp,
-  linkGoesDown,
+  link_goes_up,
+  link_goes_down,
   loses,
   writes_sync,
   writes_ack,
@@ -592,8 +592,8 @@ module _ (δ : ℕ) (p q : Pair) (laws : Laws (ids p.board)) (x : Twin (ids p.bo
       (timed us e.state line' (other g d e)) (turn (other g d e) line' (refusal TickBufferShort)) refl
       (timed_twin us δ g d p.line.link p.line.message q.line.message x.message e.state e x.destination x.generation x.lawful)
       (holds us δ g d p.line.link p.line.message q.line.message x.message masked_outcome e (refusal TickBufferShort) x.destination x.generation x.lawful))
-  step_twin linkGoesUp = idle_twin plain true p.line.message q.line.message x.message
-  step_twin linkGoesDown = idle_twin plain false none none tt
+  step_twin link_goes_up = idle_twin plain true p.line.message q.line.message x.message
+  step_twin link_goes_down = idle_twin plain false none none tt
   step_twin loses = idle_twin plain p.line.link none none tt
   step_twin (writes_sync items delay retry room) = written_twin (first_no (sync_questions p.book.phase room items)) sync (request_message delay retry items)
   step_twin (writes_ack room) = written_twin (first_no (ack_questions p.book.phase room)) ack (request_message 0 0 [])

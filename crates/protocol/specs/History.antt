@@ -13,8 +13,8 @@ use Rattle.protocol.specs.Pair.{
   Call,
   changes,
   ticks,
-  linkGoesUp,
-  linkGoesDown,
+  link_goes_up,
+  link_goes_down,
   loses,
   writes_sync,
   writes_ack,
@@ -99,8 +99,8 @@ adds (gives_up kind) p t s = s
 adds (picks_up room) p t s = s
 adds (changes place r) p t s = s
 adds (ticks room) p t s = s
-adds linkGoesUp p t s = s
-adds linkGoesDown p t s = s
+adds link_goes_up p t s = s
+adds link_goes_down p t s = s
 adds loses p t s = s
 adds (fetches room) p t s = s
 adds (shows id room) p t s = s

@@ -10,8 +10,8 @@ use Rattle.protocol.specs.Pair.{
   Call,
   changes,
   ticks,
-  linkGoesUp,
-  linkGoesDown,
+  link_goes_up,
+  link_goes_down,
   loses,
   writes_sync,
   writes_ack,
@@ -39,8 +39,8 @@ compared_of (ticks room) o = masked_outcome o
 compared_of (picks_up room) o = masked_outcome o
 compared_of (fetches room) o = masked_outcome o
 compared_of (changes place r) o = o
-compared_of linkGoesUp o = o
-compared_of linkGoesDown o = o
+compared_of link_goes_up o = o
+compared_of link_goes_down o = o
 compared_of loses o = o
 compared_of (writes_sync items delay retry room) o = o
 compared_of (writes_ack room) o = o

@@ -35,7 +35,7 @@ pub data Call : Type 0 where
   -- 100 ms have passed
   ticks : (room : ℕ) → Call
   -- the link comes up, goes down, loses what lies on it
-  linkGoesUp linkGoesDown loses : Call
+  link_goes_up link_goes_down loses : Call
   -- the book writes a request
   writes_sync : List Item → (delay retry : ℕ) → (room : ℕ) → Call
   writes_ack : (room : ℕ) → Call
@@ -95,8 +95,8 @@ change_at place r p = record {
 abbrev pub step : Pair → Call → Step
 step p (changes place r) = change_at place r p
 step p (ticks room) = acted (tick (ids p.board) room p.line p.endpoint) p
-step p linkGoesUp = carried (linked_up p.line) p
-step p linkGoesDown = carried (linked_down p.line) p
+step p link_goes_up = carried (linked_up p.line) p
+step p link_goes_down = carried (linked_down p.line) p
 step p loses = carried (withdrawn p.line) p
 step p (writes_sync items delay retry room) = noted (write_sync items delay retry room p.book) p
 step p (writes_ack room) = noted (write_ack room p.book) p

@@ -18,8 +18,8 @@ use Rattle.protocol.specs.Pair.{
   Call,
   changes,
   ticks,
-  linkGoesUp,
-  linkGoesDown,
+  link_goes_up,
+  link_goes_down,
   loses,
   writes_sync,
   writes_ack,
@@ -49,8 +49,8 @@ Fair (requests sender bytes room) p h = Succeeds p (requests sender bytes room) 
 Fair (answers kind bytes) p h = Succeeds p (answers kind bytes) → h.answer ≡ Some bytes
 Fair (changes place r) p h = Unit {0}
 Fair (ticks room) p h = Unit {0}
-Fair linkGoesUp p h = Unit {0}
-Fair linkGoesDown p h = Unit {0}
+Fair link_goes_up p h = Unit {0}
+Fair link_goes_down p h = Unit {0}
 Fair loses p h = Unit {0}
 Fair (writes_sync items delay retry room) p h = Unit {0}
 Fair (writes_ack room) p h = Unit {0}

@@ -21,8 +21,8 @@ use Rattle.protocol.specs.Pair.{
   Call,
   changes,
   ticks,
-  linkGoesUp,
-  linkGoesDown,
+  link_goes_up,
+  link_goes_down,
   loses,
   writes_sync,
   writes_ack,
@@ -69,8 +69,8 @@ starts_over (requests sender bytes room) p = starts_over_if (refusal_of room byt
 starts_over resets p = true
 starts_over (changes place r) p = false
 starts_over (ticks room) p = false
-starts_over linkGoesUp p = false
-starts_over linkGoesDown p = false
+starts_over link_goes_up p = false
+starts_over link_goes_down p = false
 starts_over loses p = false
 starts_over (writes_sync items delay retry room) p = false
 starts_over (writes_ack room) p = false
@@ -89,8 +89,8 @@ GoesOn p (c ∷ cs) = (starts_over c p ≡ false) × GoesOn (step p c).pair cs
 abbrev pub is_tick : Call → Bool
 is_tick (ticks room) = nat_le 4111 room
 is_tick (changes place r) = false
-is_tick linkGoesUp = false
-is_tick linkGoesDown = false
+is_tick link_goes_up = false
+is_tick link_goes_down = false
 is_tick loses = false
 is_tick (writes_sync items delay retry room) = false
 is_tick (writes_ack room) = false
@@ -127,8 +127,8 @@ counts (Some id) r e = lawful_reading id.identifier r && has e.enabled id.identi
 abbrev pub changes_at : (place : ℕ) → Call → Pair → Bool
 changes_at place (changes q r) p = counts (at (ids p.board) q) r p.endpoint && place == q
 changes_at place (ticks room) p = false
-changes_at place linkGoesUp p = false
-changes_at place linkGoesDown p = false
+changes_at place link_goes_up p = false
+changes_at place link_goes_down p = false
 changes_at place loses p = false
 changes_at place (writes_sync items delay retry room) p = false
 changes_at place (writes_ack room) p = false
@@ -203,7 +203,7 @@ Generations = (board : Sources) (line : Line) (calls : List Call) → let new = 
 
 -- what every run of the endpoint obeys
 pub record LawsOfRuns : Type 0 where
-  pub starting-over : StartingOver
+  pub starting_over : StartingOver
   -- prior marks what was changed since arming and before sending began
   pub prior : MarksLatest is_armed (λ e. e.prior)
   -- since marks what was changed since sending began

@@ -346,7 +346,7 @@ fn a_row(rt: HostRuntime) -> Result<(), Fail> {
                 info: 1,
             };
             assert!(rt; id == expected);
-            assert!(rt; reading.as_slice() == &[0xAA, 0x01, 0xFF]);
+            assert!(rt; reading.as_slice() == [0xAA, 0x01, 0xFF].as_slice());
             Ok(())
         }
         _ => Err(Fail::new("no row")),
@@ -429,7 +429,7 @@ fn a_sync(rt: HostRuntime) -> Result<(), Fail> {
                     on: false,
                 },
             ];
-            assert!(rt; items.as_slice() == &expected);
+            assert!(rt; items.as_slice() == expected.as_slice());
             Ok(())
         }
         _ => Err(Fail::new("no sync")),
@@ -455,7 +455,7 @@ fn messages(rt: HostRuntime) -> Result<(), Fail> {
             Action::Take {
                 message: Some(bytes),
             },
-        ) => assert!(rt; bytes.as_slice() == &[0x84]),
+        ) => assert!(rt; bytes.as_slice() == [0x84].as_slice()),
         _ => return Err(Fail::new("no message to the book")),
     }
     match action(rt.alloc(), b"take") {

@@ -16,8 +16,8 @@ use Rattle.smbus.specs.Stored.{held, stored}
 use Rattle.smbus.specs.Packets.{packet_count, payload, header, checked, packet, packets, payload_of, payloads}
 
 -- the payload of a packet that stands in a row
-pub payload-held : (len : ℕ) (row : Bytes) → len ≤ 64 → length row ≡ 73 → take (8 + len - 8) (drop 8 row) ≡ payload_of (take (8 + len + 1) row)
-payload-held len row h l =
+pub payload_held : (len : ℕ) (row : Bytes) → len ≤ 64 → length row ≡ 73 → take (8 + len - 8) (drop 8 row) ≡ payload_of (take (8 + len + 1) row)
+payload_held len row h l =
     let whole = take (8 + len + 1) row in
     let long : length whole ≡ 8 + len + 1 = length-take-le (8 + len + 1) row (omega arith) in
     let less : length whole - 9 ≡ len = omega arith in
@@ -28,14 +28,14 @@ payload-held len row h l =
     ∙ sym (ap (λ (n : ℕ). take n (drop 8 whole)) less ∙ ap (take len) back ∙ take-take len (len + 1) (drop 8 row) (omega arith))
 
 -- the next bytes of a message, where fewer than 64 are left
-pub payload-rest : (message : Bytes) (number : ℕ) → length message - 64 * number < 64 → take (length message - 64 * number) (drop (64 * number) message) ≡ payload message number
-payload-rest message number h =
+pub payload_rest : (message : Bytes) (number : ℕ) → length message - 64 * number < 64 → take (length message - 64 * number) (drop (64 * number) message) ≡ payload message number
+payload_rest message number h =
     take_rest message (64 * number)
     ∙ sym (take_all 64 (drop (64 * number) message) (omega (arith, length-drop (64 * number) message)))
 
 -- a header and a payload in a row
-pub laid-front : (row front part : Bytes) (k l : ℕ) → length front ≡ 8 → take (8 + length part) (put_mid 8 l (put_mid 0 k row front) part) ≡ front ++ part
-laid-front row front part k l h =
+pub laid_front : (row front part : Bytes) (k l : ℕ) → length front ≡ 8 → take (8 + length part) (put_mid 8 l (put_mid 0 k row front) part) ≡ front ++ part
+laid_front row front part k l h =
     let first = put_mid 0 k row front in
     take-put_mid 8 l first part (8 + length part) refl (omega (arith, length-append front (post_of 0 k row)))
     ∙ ap (λ (b : Bytes). b ++ part) (take_at front _ 8 h)
@@ -49,7 +49,7 @@ laid row front part xs ys l check r f p e g n z =
     let ends : take (8 + length part) all ≡ front ++ part =
     ap (λ (b : Bytes). take (8 + length part) (put_mid 8 l (put_mid 0 8 row b) ys)) e
     ∙ ap (λ (b : Bytes). take (8 + length part) (put_mid 8 l (put_mid 0 8 row front) b)) g
-    ∙ laid-front row front part 8 l f in
+    ∙ laid_front row front part 8 l f in
     let first = placed_copy row 0 8 xs front e (sym f) in
     let second = placed_copy (put_mid 0 8 row xs) 8 l ys part g n in
     let one : length (put_mid 0 8 row xs) ≡ 73 = ap length first ∙ length-placed row 0 front (omega arith) ∙ r in
@@ -70,38 +70,38 @@ between front part check h =
     ap (λ (n : ℕ). take n (drop 8 whole)) less ∙ ap (take (length part)) back ∙ take_at part (check ∷ []) (length part) refl
 
 -- the payload of a packet is the part of the message by its number
-pub payload-packet : (a : Addresses) (m : Message) (number : ℕ) → payload_of (packet a m number) ≡ payload m.bytes number
+pub payload_packet : (a : Addresses) (m : Message) (number : ℕ) → payload_of (packet a m number) ≡ payload m.bytes number
 unfolding packet
-payload-packet a m number =
+payload_packet a m number =
     let part = payload m.bytes number in
     let front = header a m.destination (length part) number (packet_count (length m.bytes)) in
     between front part (crc8 (front ++ part)) refl
 
 -- the payloads of one packet more
-pub payloads-push : (ps : List Bytes) (p : Bytes) → payloads (ps ++ (p ∷ [])) ≡ payloads ps ++ payload_of p
+pub payloads_push : (ps : List Bytes) (p : Bytes) → payloads (ps ++ (p ∷ [])) ≡ payloads ps ++ payload_of p
 unfolding payloads
-payloads-push ps p = sym (flat_map_more payload_of [] ps p)
+payloads_push ps p = sym (flat_map_more payload_of [] ps p)
 
 -- the payloads of the first so many packets
-first-payloads : (a : Addresses) (m : Message) (n : ℕ) → payloads (map (packet a m) (range_with_len 0 n)) ≡ take (64 * n) m.bytes
+first_payloads : (a : Addresses) (m : Message) (n : ℕ) → payloads (map (packet a m) (range_with_len 0 n)) ≡ take (64 * n) m.bytes
 unfolding payloads
-first-payloads a m zero = refl
-first-payloads a m (suc n) =
+first_payloads a m zero = refl
+first_payloads a m (suc n) =
     let f = packet a m in
     let P : ℕ → Type 0 = λ k. payloads (map f (range_with_len 0 k)) ≡ take (64 * k) m.bytes in
     subst P (add-one n)
     (ap payloads (map-range_with_len_more f 0 n n (zero-add n))
-    ∙ payloads-push (map f (range_with_len 0 n)) (f n)
-    ∙ ap (λ (l : Bytes). l ++ payload_of (f n)) (first-payloads a m n)
-    ∙ ap (λ (l : Bytes). take (64 * n) m.bytes ++ l) (payload-packet a m n)
+    ∙ payloads_push (map f (range_with_len 0 n)) (f n)
+    ∙ ap (λ (l : Bytes). l ++ payload_of (f n)) (first_payloads a m n)
+    ∙ ap (λ (l : Bytes). take (64 * n) m.bytes ++ l) (payload_packet a m n)
     ∙ sym (take-add (64 * n) 64 m.bytes)
     ∙ ap (λ (k : ℕ). take k m.bytes) (omega arith))
 
 -- the payloads of all packets of a message are the message
-pub payloads-join : (a : Addresses) (m : Message) → payloads (packets a m) ≡ m.bytes
+pub payloads_join : (a : Addresses) (m : Message) → payloads (packets a m) ≡ m.bytes
 unfolding packets
-payloads-join a m =
-    first-payloads a m (packet_count (length m.bytes))
+payloads_join a m =
+    first_payloads a m (packet_count (length m.bytes))
     ∙ take_all (64 * packet_count (length m.bytes)) m.bytes (omega arith)
 
 -- a copy behind what stands at the start of a buffer
@@ -120,5 +120,5 @@ stored_more row i p lt e =
     ∙ ap (λ (x : Packet). stored i row ++ (held x ∷ [])) (sym e)
 
 -- a packet that is stored behind the others
-pub stored-set : (row : List Packet) (i : ℕ) (p : Packet) → i < length row → stored (i + 1) (slice_set row i p) ≡ stored i row ++ (held p ∷ [])
-stored-set row i p lt = ap (map held) (take_more_set row i p lt) ∙ map_push held (take i row) p
+pub stored_set : (row : List Packet) (i : ℕ) (p : Packet) → i < length row → stored (i + 1) (slice_set row i p) ≡ stored i row ++ (held p ∷ [])
+stored_set row i p lt = ap (map held) (take_more_set row i p lt) ∙ map_push held (take i row) p

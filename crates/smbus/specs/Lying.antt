@@ -13,62 +13,62 @@ use Rattle.smbus.specs.Stored.{held, stored, Defined}
 use Rattle.smbus.specs.declared.packet.Packet.{Packet}
 use Rattle.smbus.specs.declared.bus.SmbusCarrier.{SmbusCarrier}
 use Rattle.smbus.specs.Seen.{line_of}
-use Rattle.smbus.specs.Joins.{payloads-join}
+use Rattle.smbus.specs.Joins.{payloads_join}
 
 -- how many packets a message has
-pub length-packets : (a : Addresses) (m : Message) → length (packets a m) ≡ packet_count (length m.bytes)
+pub length_packets : (a : Addresses) (m : Message) → length (packets a m) ≡ packet_count (length m.bytes)
 unfolding packets
-length-packets a m = length-map-range_with_len (packet a m) 0 (packet_count (length m.bytes))
+length_packets a m = length-map-range_with_len (packet a m) 0 (packet_count (length m.bytes))
 
 -- packets bring a message, if there is one
-pub brought-some : (destination : ℕ) (ps : List Bytes) → 0 < length ps → brought destination ps ≡ Some (message_to destination (payloads ps))
-brought-some destination [] h = absurd (omega arith)
-brought-some destination (p ∷ ps) h = refl
+pub brought_some : (destination : ℕ) (ps : List Bytes) → 0 < length ps → brought destination ps ≡ Some (message_to destination (payloads ps))
+brought_some destination [] h = absurd (omega arith)
+brought_some destination (p ∷ ps) h = refl
 
 -- the packets of a message bring it
-pub brought-packets : (a : Addresses) (destination : ℕ) (bytes : Bytes) (ps : List Bytes) → ps ≡ packets a (message_to destination bytes) → 0 < length bytes → brought destination ps ≡ Some (message_to destination bytes)
-brought-packets a destination bytes ps e h =
+pub brought_packets : (a : Addresses) (destination : ℕ) (bytes : Bytes) (ps : List Bytes) → ps ≡ packets a (message_to destination bytes) → 0 < length bytes → brought destination ps ≡ Some (message_to destination bytes)
+brought_packets a destination bytes ps e h =
     let m = message_to destination bytes in
-    let count : length ps ≡ packet_count (length bytes) = ap length e ∙ length-packets a m in
-    brought-some destination ps (omega arith)
-    ∙ ap (λ (b : Bytes). Some (message_to destination b)) (ap payloads e ∙ payloads-join a m)
+    let count : length ps ≡ packet_count (length bytes) = ap length e ∙ length_packets a m in
+    brought_some destination ps (omega arith)
+    ∙ ap (λ (b : Bytes). Some (message_to destination b)) (ap payloads e ∙ payloads_join a m)
 
 -- the packets of a message are the defined ones of what they bring
-pub defined-packets : (a : Addresses) (destination : ℕ) (bytes : Bytes) (ps : List Bytes) → ps ≡ packets a (message_to destination bytes) → Defined a destination ps
-defined-packets a destination bytes ps e =
-    e ∙ ap (λ (b : Bytes). packets a (message_to destination b)) (sym (ap payloads e ∙ payloads-join a (message_to destination bytes)))
+pub defined_packets : (a : Addresses) (destination : ℕ) (bytes : Bytes) (ps : List Bytes) → ps ≡ packets a (message_to destination bytes) → Defined a destination ps
+defined_packets a destination bytes ps e =
+    e ∙ ap (λ (b : Bytes). packets a (message_to destination b)) (sym (ap payloads e ∙ payloads_join a (message_to destination bytes)))
 
 -- where no packet is stored, each is the defined one
-pub defined-none : (a : Addresses) (destination : ℕ) → Defined a destination []
+pub defined_none : (a : Addresses) (destination : ℕ) → Defined a destination []
 unfolding packets payloads
-defined-none a destination = refl
+defined_none a destination = refl
 
 -- what at most 66 packets bring fits
-pub brought-fits : (a : Addresses) (destination : ℕ) (ps : List Bytes) → length ps ≤ 66 → Defined a destination ps → lying_fits (brought destination ps) ≡ true
-brought-fits a destination [] h e = refl
-brought-fits a destination (p ∷ ps) h e =
+pub brought_fits : (a : Addresses) (destination : ℕ) (ps : List Bytes) → length ps ≤ 66 → Defined a destination ps → lying_fits (brought destination ps) ≡ true
+brought_fits a destination [] h e = refl
+brought_fits a destination (p ∷ ps) h e =
     let bytes = payloads (p ∷ ps) in
-    let count : suc (length ps) ≡ packet_count (length bytes) = ap length e ∙ length-packets a (message_to destination bytes) in
+    let count : suc (length ps) ≡ packet_count (length bytes) = ap length e ∙ length_packets a (message_to destination bytes) in
     fits bytes (omega arith) (omega arith)
 
 -- the packets of what lies there are the stored ones
-pub packets-stored : (a : Addresses) (destination : ℕ) (ps : List Bytes) → Defined a destination ps → packets_of a (brought destination ps) ≡ ps
-packets-stored a destination [] e = refl
-packets-stored a destination (p ∷ ps) e = sym e
+pub packets_stored : (a : Addresses) (destination : ℕ) (ps : List Bytes) → Defined a destination ps → packets_of a (brought destination ps) ≡ ps
+packets_stored a destination [] e = refl
+packets_stored a destination (p ∷ ps) e = sym e
 
 -- the payloads of the packets of what lies there are its bytes
-pub payloads-lying : (a : Addresses) (lying : Option Message) → payloads (packets_of a lying) ≡ bytes_of lying
+pub payloads_lying : (a : Addresses) (lying : Option Message) → payloads (packets_of a lying) ≡ bytes_of lying
 unfolding payloads
-payloads-lying a None = refl
-payloads-lying a (Some m) = payloads-join a m
+payloads_lying a None = refl
+payloads_lying a (Some m) = payloads_join a m
 
 -- the packets that a carrier stores are those of what lies there
 pub shown : (s : SmbusCarrier) (row : List Packet) → row ≡ take s.count s.row → packets_on s.addresses (line_of s) ≡ map held row
-shown s row e = packets-stored s.addresses s.destination (stored s.count s.row) s.defined ∙ sym (ap (map held) e)
+shown s row e = packets_stored s.addresses s.destination (stored s.count s.row) s.defined ∙ sym (ap (map held) e)
 
 -- a carrier stores at most 66 packets
-pub few-stored : (s : SmbusCarrier) → length (take s.count s.row) ≤ 66
-few-stored s = omega (arith, length-take s.count s.row, s.few)
+pub few_stored : (s : SmbusCarrier) → length (take s.count s.row) ≤ 66
+few_stored s = omega (arith, length-take s.count s.row, s.few)
 
 -- a choice between two that are the same
 cond_same : (b : Bool) (p : Bytes) → cond b p p ≡ p
@@ -81,11 +81,11 @@ chosen_none ps number room h =
     ap (λ (p : Bytes). cond (nat_le (length p) room) p []) (get_or_past ps number [] h) ∙ cond_same (nat_le 0 room) []
 
 -- the packet of this number is too long
-pub chosen-long : (ps : List Bytes) (number room : ℕ) (p : Bytes) → slice_index_or ps number [] ≡ p → room < length p → chosen ps number room ≡ []
-chosen-long ps number room p e h =
+pub chosen_long : (ps : List Bytes) (number room : ℕ) (p : Bytes) → slice_index_or ps number [] ≡ p → room < length p → chosen ps number room ≡ []
+chosen_long ps number room p e h =
     ap (λ (b : Bytes). cond (nat_le (length b) room) b []) e ∙ cond-false (nat_le (length p) room) p [] (lt-leb (length p) room h)
 
 -- the packet of this number fits
-pub chosen-fits : (ps : List Bytes) (number room : ℕ) (p : Bytes) → slice_index_or ps number [] ≡ p → length p ≤ room → chosen ps number room ≡ p
-chosen-fits ps number room p e h =
+pub chosen_fits : (ps : List Bytes) (number room : ℕ) (p : Bytes) → slice_index_or ps number [] ≡ p → length p ≤ room → chosen ps number room ≡ p
+chosen_fits ps number room p e h =
     ap (λ (b : Bytes). cond (nat_le (length b) room) b []) e ∙ cond-true (nat_le (length p) room) p [] (le-leb (length p) room h)

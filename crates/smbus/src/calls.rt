@@ -8,7 +8,7 @@ ghost use Rattle.smbus.specs.Seen.{addressed, line_of, seen_if, made};
 ghost use Rattle.std.proofs.Common.{arith};
 ghost use Rattle.smbus.specs.Stored.{held};
 ghost use Rattle.smbus.specs.Stored;
-ghost use Rattle.smbus.specs.Lying.{brought-fits, few-stored};
+ghost use Rattle.smbus.specs.Lying.{brought_fits, few_stored};
 
 use crate::bus::SmbusCarrier;
 use crate::packet::{Addresses, Packet};
@@ -85,8 +85,8 @@ impl Carrier for SmbusCarrier {
     ghost carried = { line_of };
 
     ghost fits = { λ s.
-        let few : length (Stored.stored s.count s.row) ≤ 66 = omega (arith, length-map (take s.count s.row) held, few-stored s) in
-        brought-fits s.addresses s.destination (Stored.stored s.count s.row) few s.defined };
+        let few : length (Stored.stored s.count s.row) ≤ 66 = omega (arith, length-map (take s.count s.row) held, few_stored s) in
+        brought_fits s.addresses s.destination (Stored.stored s.count s.row) few s.defined };
 
     fn is_up(&self) -> bool {
         self.up

@@ -4,7 +4,7 @@ use Rattle.event.specs.Bytes.{Bytes, placed}
 use Rattle.event.proofs.Placed.{placed-none}
 use Rattle.smbus.specs.Packets.{payloads}
 use Rattle.smbus.specs.Stored.{held, stored}
-use Rattle.smbus.specs.Joins.{copied_more, payloads-push, stored_more}
+use Rattle.smbus.specs.Joins.{copied_more, payloads_push, stored_more}
 use Rattle.smbus.proofs.packing.join.Goals as goal
 
 pub loop-packet-init : goal.loop-packet-init
@@ -20,7 +20,7 @@ loop-packet-preserved c =
     let part = c.payload-payload.result.now in
     let more : payloads (stored (i + 1) row) ≡ front ++ part =
     ap payloads (stored_more row i p c.loop-packet-test.true c.packet-item.is)
-    ∙ payloads-push (stored i row) (held p)
+    ∙ payloads_push (stored i row) (held p)
     ∙ ap (λ (b : Bytes). front ++ b) (sym c.payload-payload.ensures.part) in (
       omega (arith, ap length more, length-append front part),
       copied_more c.args.buffer.now c.loop-packet.buffer front part c.copy_from_slice.new.self c.loop-packet.at _

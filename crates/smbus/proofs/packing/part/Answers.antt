@@ -1,5 +1,5 @@
 use Rattle.std.proofs.Common.{◌≡◌, ℕ, ◌+◌, ◌-◌, ◌*◌, length, take, drop, ap, arith, length-take}
-use Rattle.smbus.specs.Joins.{payload-rest}
+use Rattle.smbus.specs.Joins.{payload_rest}
 use Rattle.smbus.proofs.packing.part.Goals as goal
 
 pub returns-then-message-start-lt64 : goal.returns-then-message-start-lt64
@@ -7,7 +7,7 @@ returns-then-message-start-lt64 c =
     let message = c.args.message.now in
     let start = 64 * c.args.number in
     record {
-      part = payload-rest message c.args.number c.if-message-start-lt64.true;
+      part = payload_rest message c.args.number c.if-message-start-lt64.true;
       few = omega (arith, length-take (length message - start) (drop start message));
     }
 

@@ -5,7 +5,7 @@ use Rattle.event.specs.Bytes.{Bytes}
 use Rattle.carrier.specs.Carriers.{message_to}
 use Rattle.smbus.specs.Packets.{packet, packets, packet_count}
 use Rattle.smbus.specs.Stored.{held, stored}
-use Rattle.smbus.specs.Joins.{stored-set}
+use Rattle.smbus.specs.Joins.{stored_set}
 use Rattle.smbus.proofs.packing.split.Goals as goal
 
 pub loop-number-preserved : goal.loop-number-preserved
@@ -13,7 +13,7 @@ loop-number-preserved c =
     let n = c.loop-number.number in
     let f = packet c.args.addresses (message_to c.args.destination c.args.message.now) in
     let lt : n < length c.loop-number.row = omega arith in
-    stored-set c.loop-number.row n c.packet_of.result lt
+    stored_set c.loop-number.row n c.packet_of.result lt
     ∙ ap (λ (ps : List Bytes). ps ++ (held c.packet_of.result ∷ [])) c.loop-number.invariant
     ∙ ap (λ (p : Bytes). map f (range_with_len 0 n) ++ (p ∷ [])) c.packet_of.ensures
     ∙ sym (map-range_with_len_more f 0 n n (zero-add n))

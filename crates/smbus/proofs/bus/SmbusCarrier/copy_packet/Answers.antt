@@ -5,7 +5,7 @@ use Rattle.event.specs.Bytes.{Bytes, placed}
 use Rattle.event.proofs.Placed.{placed-none, placed_copy}
 use Rattle.smbus.specs.Packets.{chosen}
 use Rattle.smbus.specs.Stored.{held}
-use Rattle.smbus.specs.Lying.{shown, chosen_none, chosen-long, chosen-fits}
+use Rattle.smbus.specs.Lying.{shown, chosen_none, chosen_long, chosen_fits}
 use Rattle.smbus.proofs.bus.SmbusCarrier.copy_packet.Goals as goal
 
 pub returns-then-number-packets : goal.returns-then-number-packets
@@ -27,7 +27,7 @@ returns-then-buffer-len c =
     ∙ sym (c.as_bytes-bytes.ensures ∙ ap held c.index-packets-number.is) in
     let none =
     ap (λ (ps : List Bytes). chosen ps c.args.number (length buffer)) (shown c.args.self.now row c.stored-packets.ensures)
-    ∙ chosen-long (map held row) c.args.number (length buffer) bytes at (omega arith) in
+    ∙ chosen_long (map held row) c.args.number (length buffer) bytes at (omega arith) in
     record { count = sym (ap length none); buffer = sym (ap (placed buffer 0) none ∙ placed-none buffer 0) }
 
 pub returns : goal.returns
@@ -40,7 +40,7 @@ returns c =
     ∙ sym (c.as_bytes-bytes.ensures ∙ ap held c.index-packets-number.is) in
     let fits =
     ap (λ (ps : List Bytes). chosen ps c.args.number (length buffer)) (shown c.args.self.now row c.stored-packets.ensures)
-    ∙ chosen-fits (map held row) c.args.number (length buffer) bytes at (omega arith) in
+    ∙ chosen_fits (map held row) c.args.number (length buffer) bytes at (omega arith) in
     record {
       count = sym (ap length fits);
       buffer =

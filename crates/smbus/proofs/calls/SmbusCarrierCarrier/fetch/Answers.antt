@@ -7,7 +7,7 @@ use Rattle.smbus.specs.Packets.{payloads, brought}
 use Rattle.smbus.specs.Stored.{held, stored}
 use Rattle.smbus.specs.Seen.{line_of}
 use Rattle.smbus.specs.declared.packet.Packet.{Packet}
-use Rattle.smbus.specs.Lying.{brought-some}
+use Rattle.smbus.specs.Lying.{brought_some}
 use Rattle.smbus.proofs.calls.SmbusCarrierCarrier.fetch.Goals as goal
 
 pub returns-then-self-eq0 : goal.returns-then-self-eq0
@@ -28,7 +28,7 @@ returns c =
     let buffer = c.args.buffer.now in
     let row = take s.count s.row in
     let some : 0 < length (map held row) = omega (arith, length-map row held, length-take s.count s.row) in
-    let lies = brought-some s.destination (map held row) some in
+    let lies = brought_some s.destination (map held row) some in
     let room : 4224 ≤ length buffer = omega arith in
     record {
       result =

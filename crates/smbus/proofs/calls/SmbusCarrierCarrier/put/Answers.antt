@@ -4,7 +4,7 @@ use Rattle.carrier.specs.Carriers.{linked, message_fits, takes}
 use Rattle.carrier.proofs.Lines.{fits_length, put_taken}
 use Rattle.smbus.specs.Stored.{stored}
 use Rattle.smbus.specs.Seen.{line_of}
-use Rattle.smbus.specs.Lying.{defined-packets, brought-packets}
+use Rattle.smbus.specs.Lying.{defined_packets, brought_packets}
 use Rattle.smbus.proofs.calls.SmbusCarrierCarrier.put.Goals as goal
 
 pub invariant_of-self : goal.invariant_of-self
@@ -16,7 +16,7 @@ invariant_of-self c =
       low = s.low;
       few = omega arith;
       whole = omega arith;
-      defined = defined-packets s.addresses c.args.destination c.args.message.now (stored c.split-self.result c.split-self.new.row) c.split-self.ensures.all;
+      defined = defined_packets s.addresses c.args.destination c.args.message.now (stored c.split-self.result c.split-self.new.row) c.split-self.ensures.all;
     }
 
 pub returns : goal.returns
@@ -30,7 +30,7 @@ returns c =
       taken = sym taken;
       after =
           ap (linked s.up)
-          (brought-packets s.addresses c.args.destination message (stored c.split-self.result c.split-self.new.row) c.split-self.ensures.all (fits_length message fits).0)
+          (brought_packets s.addresses c.args.destination message (stored c.split-self.result c.split-self.new.row) c.split-self.ensures.all (fits_length message fits).0)
           ∙ sym (put_taken (line_of s) c.args.destination message taken);
       kept = refl;
     }

@@ -1,8 +1,8 @@
 use Rattle.std.proofs.Common.{arith}
-use Rattle.smbus.specs.Lying.{defined-none}
+use Rattle.smbus.specs.Lying.{defined_none}
 use Rattle.smbus.proofs.calls.SmbusCarrierCarrier.withdraw.Goals as goal
 
 pub invariant_of-self : goal.invariant_of-self
 invariant_of-self c =
     let s = c.args.self.now in
-    record { low = s.low; few = omega arith; whole = s.whole; defined = defined-none s.addresses s.destination }
+    record { low = s.low; few = omega arith; whole = s.whole; defined = defined_none s.addresses s.destination }
