@@ -11,13 +11,6 @@ use Rattle.marks.proofs.Listing.{rest, rest-marked, rest-unmarked, rest_end}
 use Rattle.marks.proofs.write.put_body.Goals as goal
 use Rattle.marks.proofs.write.put_body.Goals.{in-Some+in-Some-id, in-Some+in_default-id, in_default}
 
-pub put_occurrence-at-requires : goal.put_occurrence-at-requires
-put_occurrence-at-requires g c =
-    let us = ids (g.B.Board.told c.args.board.now) in
-    let step = ap length (rest-marked us (marks_of c.args.marks.now) c.loop-place.place c.in-Some-id.id (held c.in-Some.reading) (sym c.in-Some-id.ensures) (sym c.in-Some.ensures)) in
-    let long = simp length-append at step in
-    omega arith
-
 pub loop-place-preserved : goal.loop-place-preserved
 loop-place-preserved g c =
     let us = ids (g.B.Board.told c.args.board.now) in
@@ -59,3 +52,10 @@ returns g c =
       end = omega (arith, ap length z);
       out = sym (placed-none c.loop-place.out c.loop-place.at) ∙ ap (placed c.loop-place.out c.loop-place.at) (sym z) ∙ c.loop-place.invariant.0;
     }
+
+pub put_occurrence-at-requires : goal.put_occurrence-at-requires
+put_occurrence-at-requires g c =
+    let us = ids (g.B.Board.told c.args.board.now) in
+    let step = ap length (rest-marked us (marks_of c.args.marks.now) c.loop-place.place c.in-Some-id.id (held c.in-Some.reading) (sym c.in-Some-id.ensures) (sym c.in-Some.ensures)) in
+    let long = simp length-append at step in
+    omega arith

@@ -3,10 +3,10 @@ use Rattle.board.specs.Drives.{new_drive}
 use Rattle.board.proofs.Drives.{new_lawful}
 use Rattle.board.proofs.drive.DriveBoard.new.Goals as goal
 
-pub invariant_of-result : goal.invariant_of-result
-unfolding new_drive
-invariant_of-result c = record { lawful = new_lawful c.args.controller (omega arith) }
-
 pub returns : goal.returns
 unfolding new_drive
 returns c = refl
+
+pub invariant_of-result : goal.invariant_of-result
+unfolding new_drive
+invariant_of-result c = record { lawful = new_lawful c.args.controller (omega arith) }

@@ -35,11 +35,13 @@ returns-then-not-all_lawful c =
     let rows = c.args.rows.now in
     sym (ap (λ (o : Option Refusal). board_of o (rows_told rows)) (refuse_unlawful (rows_told rows) (counted rows (omega arith) (omega arith)) (sym c.if-not-all_lawful.ensures)))
 
-pub returns-then-has_twice : goal.returns-then-has_twice
-returns-then-has_twice c =
+pub returns : goal.returns
+returns c =
     let rows = c.args.rows.now in
-    let again = searched rows c.columns.result.0 c.columns.result.1 c.columns.ensures (c.if-has_twice.ensures same_id same_id_test) in
-    sym (ap (λ (o : Option Refusal). board_of o (rows_told rows)) (refuse_twice (rows_told rows) (counted rows (omega arith) (omega arith)) (sym c.if-not-all_lawful.ensures) again))
+    let once = searched rows c.columns.result.0 c.columns.result.1 c.columns.ensures (c.if-has_twice.ensures same_id same_id_test) in
+    let told = columns_tell rows c.columns.result.0 c.columns.result.1 c.columns.ensures in
+    ap Ok told
+    ∙ sym (ap (λ (o : Option Refusal). board_of o (rows_told rows)) (refuse_none (rows_told rows) (counted rows (omega arith) (omega arith)) (sym c.if-not-all_lawful.ensures) once))
 
 pub invariant_of-result : goal.invariant_of-result
 invariant_of-result c =
@@ -49,10 +51,8 @@ invariant_of-result c =
     let lawful = rows-lawful (rows_told rows) (counted rows (omega arith) (omega arith)) (sym c.if-not-all_lawful.ensures) once in
     record { few = c.if-rows-gt64.false; named = c.columns.ensures.names; read = c.columns.ensures.readings; lawful = ap lawful_board told ∙ lawful }
 
-pub returns : goal.returns
-returns c =
+pub returns-then-has_twice : goal.returns-then-has_twice
+returns-then-has_twice c =
     let rows = c.args.rows.now in
-    let once = searched rows c.columns.result.0 c.columns.result.1 c.columns.ensures (c.if-has_twice.ensures same_id same_id_test) in
-    let told = columns_tell rows c.columns.result.0 c.columns.result.1 c.columns.ensures in
-    ap Ok told
-    ∙ sym (ap (λ (o : Option Refusal). board_of o (rows_told rows)) (refuse_none (rows_told rows) (counted rows (omega arith) (omega arith)) (sym c.if-not-all_lawful.ensures) once))
+    let again = searched rows c.columns.result.0 c.columns.result.1 c.columns.ensures (c.if-has_twice.ensures same_id same_id_test) in
+    sym (ap (λ (o : Option Refusal). board_of o (rows_told rows)) (refuse_twice (rows_told rows) (counted rows (omega arith) (omega arith)) (sym c.if-not-all_lawful.ensures) again))

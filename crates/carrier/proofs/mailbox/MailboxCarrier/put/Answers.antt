@@ -5,12 +5,6 @@ use Rattle.carrier.specs.Carriers.{linked, kept, message_fits, takes}
 use Rattle.carrier.proofs.Lines.{fits_length, put_taken, kept_copy}
 use Rattle.carrier.proofs.mailbox.MailboxCarrier.put.Goals as goal
 
-pub invariant_of-self : goal.invariant_of-self
-invariant_of-self c =
-    let fits : message_fits c.args.message.now ≡ true = cc in
-    let size = fits_length c.args.message.now fits in
-    record { short = omega arith; whole = search (rules, overwrites) }
-
 pub returns : goal.returns
 returns c =
     let now = c.args.self.now in
@@ -25,3 +19,9 @@ returns c =
           ap (linked now.up) (kept_copy c.args.destination now.bytes c.copy_from_slice.new.self message (fits_length message fits).0 c.copy_from_slice.ensures.after)
           ∙ sym (put_taken line c.args.destination message taken);
     }
+
+pub invariant_of-self : goal.invariant_of-self
+invariant_of-self c =
+    let fits : message_fits c.args.message.now ≡ true = cc in
+    let size = fits_length c.args.message.now fits in
+    record { short = omega arith; whole = search (rules, overwrites) }

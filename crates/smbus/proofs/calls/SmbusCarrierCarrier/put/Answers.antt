@@ -7,18 +7,6 @@ use Rattle.smbus.specs.Seen.{line_of}
 use Rattle.smbus.specs.Lying.{defined_packets, brought_packets}
 use Rattle.smbus.proofs.calls.SmbusCarrierCarrier.put.Goals as goal
 
-pub invariant_of-self : goal.invariant_of-self
-invariant_of-self c =
-    let s = c.args.self.now in
-    let fits : message_fits c.args.message.now ≡ true = cc in
-    let size = fits_length c.args.message.now fits in
-    record {
-      low = s.low;
-      few = omega arith;
-      whole = omega arith;
-      defined = defined_packets s.addresses c.args.destination c.args.message.now (stored c.split-self.result c.split-self.new.row) c.split-self.ensures.all;
-    }
-
 pub returns : goal.returns
 returns c =
     let s = c.args.self.now in
@@ -33,4 +21,16 @@ returns c =
           (brought_packets s.addresses c.args.destination message (stored c.split-self.result c.split-self.new.row) c.split-self.ensures.all (fits_length message fits).0)
           ∙ sym (put_taken (line_of s) c.args.destination message taken);
       kept = refl;
+    }
+
+pub invariant_of-self : goal.invariant_of-self
+invariant_of-self c =
+    let s = c.args.self.now in
+    let fits : message_fits c.args.message.now ≡ true = cc in
+    let size = fits_length c.args.message.now fits in
+    record {
+      low = s.low;
+      few = omega arith;
+      whole = omega arith;
+      defined = defined_packets s.addresses c.args.destination c.args.message.now (stored c.split-self.result c.split-self.new.row) c.split-self.ensures.all;
     }
