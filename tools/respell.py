@@ -5,7 +5,7 @@ would do.
 
 - A definition, constructor, field or alias with capitals inside (readList) becomes read_list.
 - A fact with dashes (Came-fairly) becomes CameFairly.
-- A lemma's dashes become underscores, but where they join names of definitions alone (length-ids), or where the new name would
+- A lemma's dashes become underscores, but where they join names of definitions alone (at-ids), or where the new name would
   fall together with another one: there the dashes stay.
 - Nothing in strings, comments of src/, or names of functions, types and fields of src/ is touched.
 """
