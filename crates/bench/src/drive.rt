@@ -1,10 +1,10 @@
 //! A week at the drive's side: an endpoint on a drive board and a mailbox, with its record.
-use crate::record::{show_call, show_endpoint};
+use crate::record::{show_call, show_endpoint, written};
 use board::drive::DriveBoard;
 use carrier::Carrier;
 use carrier::mailbox::Mailbox;
 use endpoint::types::Endpoint;
-use event::delay::{Seconds, Tenths};
+use event::delay::{Delays, Seconds, Tenths};
 use event::refusal::Refusal;
 use std::io;
 use wire::request::{write_ack, write_sync};
@@ -83,7 +83,7 @@ impl Drive {
 }
 
 /// A sync of the composite temperature and the percentage of drive life used, delay 1 s, retry delay 0.3 s.
-fn sync(buffer: &mut [u8]) -> usize {
+fn sync(buffer: &mut [u8]) -> Result<usize, Refusal> {
     let items = [
         Item {
             identifier: 0x06,
@@ -94,7 +94,11 @@ fn sync(buffer: &mut [u8]) -> usize {
             on: true,
         },
     ];
-    write_sync(buffer, &items, Seconds(1), Tenths(3)).unwrap_or(0)
+    let delays = Delays {
+        first: Seconds(1),
+        retry: Tenths(3),
+    };
+    write_sync(buffer, &items, delays)
 }
 
 /// Runs the week: a sync, a change that is sent after its delay, two changes while the message waits, a retry, the ack; then
@@ -102,15 +106,15 @@ fn sync(buffer: &mut [u8]) -> usize {
 pub fn run_week(rt: &HostRuntime) -> io::Result<()> {
     let mut drive = Drive::new();
     let mut buffer = [0u8; 217];
-    let n = sync(&mut buffer).min(217);
-    drive.hand(rt, "hand sync", &buffer[0..n])?;
+    let request = sync(&mut buffer);
+    drive.hand(rt, "hand sync", written(request, &buffer))?;
     drive.change(rt, "change 6 1F", 6, &[0x1F])?;
     drive.tick(rt, 10)?;
     drive.change(rt, "change 7 01", 7, &[0x01])?;
     drive.change(rt, "change 6 20", 6, &[0x20])?;
     drive.tick(rt, 3)?;
-    let n = write_ack(&mut buffer).unwrap_or(0).min(217);
-    drive.hand(rt, "hand ack", &buffer[0..n])?;
+    let request = write_ack(&mut buffer);
+    drive.hand(rt, "hand ack", written(request, &buffer))?;
     refused_calls(rt, &mut drive)?;
     drive.mailbox.link_down();
     drive.change(rt, "change 7 02", 7, &[0x02])?;

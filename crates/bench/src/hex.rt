@@ -7,11 +7,12 @@ pub struct Hex<'a>(pub &'a [u8]);
 
 impl<'a> fmt::Display for Hex<'a> {
     fn fmt<W: fmt::Write>(&self, f: &mut fmt::Formatter<W>) -> fmt::Result {
-        for (i, b) in self.0.iter().enumerate() {
-            if i > 0 {
-                write!(f, " ")?;
-            }
-            write!(f, "{b:02X}")?;
+        let [first, rest @ ..] = self.0 else {
+            return Ok(());
+        };
+        write!(f, "{first:02X}")?;
+        for byte in rest {
+            write!(f, " {byte:02X}")?;
         }
         Ok(())
     }

@@ -8,13 +8,14 @@ use board::drive::DriveBoard;
 use board::table::TableBoard;
 use carrier::mailbox::Mailbox;
 use drive::run_week;
-use event::delay::{Seconds, Tenths};
+use event::delay::{Delays, Seconds, Tenths};
 use event::id::UniqueId;
 use event::occurrence::Occurrence;
 use event::reading::Reading;
 use event::refusal::Refusal;
 use hex::Hex;
-use marks::types::Marks;
+use marks::types::{Marked, Marks};
+use record::written;
 use report::{show, show_refusal};
 use smbus::SmbusCarrier;
 use std::io;
@@ -45,23 +46,11 @@ const ITEMS: [Item; 2] = [
     },
 ];
 
-/// Which reader a message is for.
-#[derive(Clone, Copy)]
-enum Reader {
-    Event,
-    Answer,
-    Request,
-}
-
-impl Reader {
-    fn read<'a>(self, bytes: &'a [u8]) -> Result<Message<'a>, Refusal> {
-        match self {
-            Reader::Event => read_event(bytes),
-            Reader::Answer => read_answer(bytes),
-            Reader::Request => read_request(bytes),
-        }
-    }
-}
+/// The delays of the sync: 5 s, and 2 s before each further attempt.
+const DELAYS: Delays = Delays {
+    first: Seconds(5),
+    retry: Tenths(20),
+};
 
 fn main(rt: HostRuntime) -> anyhow::Result<()> {
     run(&rt)
@@ -75,11 +64,13 @@ fn run(rt: &HostRuntime) -> anyhow::Result<()> {
         let _marked = marks.mark(TEMPERATURE, reading);
     }
     let mut buffer = [0u8; 4115];
-    show_messages(rt, &drive, &marks, &mut buffer)?;
-    let message = write_event(&mut buffer, 8, &drive, &marks)
-        .unwrap_or(0)
-        .min(4111);
-    show_carriers(rt, &buffer[0..message])?;
+    let marked = Marked {
+        board: &drive,
+        marks: &marks,
+    };
+    show_messages(rt, &marked, &mut buffer)?;
+    let message = write_event(&mut buffer, 8, &marked);
+    show_carriers(rt, written(message, &buffer))?;
     show_boards(rt, &mut drive)?;
     println!(rt; "A week at the drive's side:")?;
     run_week(rt)?;
@@ -89,19 +80,18 @@ fn run(rt: &HostRuntime) -> anyhow::Result<()> {
 /// Each kind of message.
 fn show_messages<B: Board>(
     rt: &HostRuntime,
-    board: &B,
-    marks: &Marks,
+    marked: &Marked<'_, B>,
     buffer: &mut [u8],
 ) -> io::Result<()> {
     println!(rt; "The event message of a changed composite temperature, generation 1:")?;
-    let written = write_event(buffer, 8, board, marks);
-    show_written(rt, Reader::Event, written, buffer)?;
+    let written = write_event(buffer, 8, marked);
+    show_written(rt, read_event, written, buffer)?;
     println!(rt; "The answer that lists it:")?;
-    let written = write_answer(buffer, false, board, marks);
-    show_written(rt, Reader::Answer, written, buffer)?;
+    let written = write_answer(buffer, false, marked);
+    show_written(rt, read_answer, written, buffer)?;
     println!(rt; "A sync that asks for it:")?;
-    let written = write_sync(buffer, &ITEMS, Seconds(5), Tenths(20));
-    show_written(rt, Reader::Request, written, buffer)
+    let written = write_sync(buffer, &ITEMS, DELAYS);
+    show_written(rt, read_request, written, buffer)
 }
 
 /// The message on each carrier, and back.
@@ -145,12 +135,14 @@ fn show_boards(rt: &HostRuntime, drive: &mut DriveBoard) -> io::Result<()> {
 }
 
 /// Prints the bytes that were written and what is read of them; then what is read of a damaged copy.
-fn show_written(
+fn show_written<F: Fn(&[u8]) -> Result<Message<'_>, Refusal>>(
     rt: &HostRuntime,
-    reader: Reader,
+    read: F,
     written: Result<usize, Refusal>,
     buffer: &mut [u8],
-) -> io::Result<()> {
+) -> io::Result<()>
+    requires { F.IsAlwaysCallable read }
+{
     let n = match written {
         Ok(n) => n,
         Err(refusal) => return show_refusal(rt, refusal),
@@ -160,8 +152,8 @@ fn show_written(
     }
     let hex = Hex(&buffer[0..n]);
     println!(rt; "  {n} bytes: {hex}")?;
-    show(rt, reader.read(&buffer[0..n]))?;
+    show(rt, read(&buffer[0..n]))?;
     buffer[9] ^= 0xFF;
     println!(rt; "  the same with byte 9 changed:")?;
-    show(rt, reader.read(&buffer[0..n]))
+    show(rt, read(&buffer[0..n]))
 }

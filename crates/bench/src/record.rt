@@ -1,67 +1,37 @@
 //! The record of a drive's side: two lines for each call.
 use crate::hex::Hex;
+use arrayvec::ArrayVec;
 use endpoint::types::Endpoint;
 use event::enabled::has;
 use event::refusal::Refusal;
-use protocol::types::State;
+use std::alloc::AllocError;
 use std::{fmt, io};
 
-/// A set of identifiers, shown in hexadecimal and ascending, `-` where it is empty.
-#[derive(Clone, Copy)]
-pub struct Identifiers(pub [u64; 4]);
+/// A byte, shown as two hexadecimal digits.
+#[derive(Clone, Copy, Default)]
+struct HexByte(u8);
 
-impl fmt::Display for Identifiers {
+impl fmt::Display for HexByte {
     fn fmt<W: fmt::Write>(&self, f: &mut fmt::Formatter<W>) -> fmt::Result {
-        let mut first = true;
-        for identifier in 0..=255u8 {
-            if has(self.0, identifier) {
-                if !first {
-                    write!(f, ",")?;
-                }
-                write!(f, "{identifier:02X}")?;
-                first = false;
-            }
-        }
-        if first {
-            write!(f, "-")?;
-        }
-        Ok(())
+        let byte = self.0;
+        write!(f, "{byte:02X}")
     }
 }
 
-/// The places that are marked, by a 64-bit set, shown ascending, `-` where none is.
+/// Values with commas between them, `-` where there is none.
 #[derive(Clone, Copy)]
-pub struct Places(pub [bool; 64]);
+struct Listed<'a, T>(&'a [T]);
 
-impl fmt::Display for Places {
+impl<'a, T: fmt::Display> fmt::Display for Listed<'a, T> {
     fn fmt<W: fmt::Write>(&self, f: &mut fmt::Formatter<W>) -> fmt::Result {
-        let mut first = true;
-        for place in 0..64usize {
-            if self.0[place] {
-                if !first {
-                    write!(f, ",")?;
-                }
-                write!(f, "{place}")?;
-                first = false;
-            }
-        }
-        if first {
-            write!(f, "-")?;
+        let [first, rest @ ..] = self.0 else {
+            return write!(f, "-");
+        };
+        write!(f, "{first}")?;
+        for value in rest {
+            write!(f, ",{value}")?;
         }
         Ok(())
-    }
-}
-
-/// The word for a state.
-fn state_word(state: State) -> &'static str {
-    match state {
-        State::Off => "off",
-        State::Armed { age: _ } => "armed",
-        State::Sending {
-            attempt: _,
-            waited: _,
-        } => "sending",
-        State::Failed => "failed",
     }
 }
 
@@ -87,18 +57,35 @@ pub fn show_call(
     }
 }
 
+/// The bytes that a call wrote to the front of a buffer; none where it was refused.
+pub(crate) fn written(count: Result<usize, Refusal>, buffer: &[u8]) -> &[u8] {
+    count.ok().and_then(|n| buffer.get(..n)).unwrap_or(&[])
+}
+
+/// The places of a board, of which there are at most 64, that pass a test.
+fn places<F: Fn(usize) -> bool>(test: F) -> Result<ArrayVec<usize, 64>, AllocError>
+    requires { F.IsAlwaysCallable test }
+{
+    let mut found = ArrayVec::new();
+    found.extend((0..64usize).filter(|place| test(*place)))?;
+    Ok(found)
+}
+
 /// The second line: where the endpoint stands after it, and how long the message on the carrier is.
 pub fn show_endpoint(rt: &HostRuntime, endpoint: &Endpoint, lying: usize) -> io::Result<()> {
-    let state = state_word(endpoint.state());
-    let enabled = Identifiers(endpoint.enabled());
-    let mut prior = [false; 64];
-    let mut since = [false; 64];
-    for place in 0..64usize {
-        prior[place] = endpoint.prior(place).is_some();
-        since[place] = endpoint.since(place).is_some();
-    }
-    let prior = Places(prior);
-    let since = Places(since);
+    let state = endpoint.state();
+    let set = endpoint.enabled();
+    let mut enabled = ArrayVec::<HexByte, 256>::new();
+    enabled.extend(
+        (0..=255u8)
+            .filter(|identifier| has(set, *identifier))
+            .map(HexByte),
+    )?;
+    let prior = places(|place| endpoint.prior(place).is_some())?;
+    let since = places(|place| endpoint.since(place).is_some())?;
+    let enabled = Listed(enabled.as_slice());
+    let prior = Listed(prior.as_slice());
+    let since = Listed(since.as_slice());
     let generation = endpoint.generation();
     let failure = u8::from(endpoint.failure());
     println!(rt;

@@ -27,14 +27,13 @@ pub fn show(rt: &HostRuntime, read: Result<Message, Refusal>) -> io::Result<()> 
         Ok(
             Message::Sync {
                 slot,
-                delay,
-                retry,
+                delays,
                 items,
             },
         ) => {
             let slot = u8::from(slot);
-            let delay = delay.ticks();
-            let retry = retry.ticks();
+            let delay = delays.first.ticks();
+            let retry = delays.retry.ticks();
             println!(rt; "  a sync: slot {slot}, delay {delay} ticks, retry delay {retry} ticks")?;
             show_items(rt, items)
         }
@@ -53,7 +52,7 @@ pub fn show_refusal(rt: &HostRuntime, refusal: Refusal) -> io::Result<()> {
 }
 
 fn show_list(rt: &HostRuntime, list: OccurrenceList) -> io::Result<()> {
-    let OccurrenceList::These(occurrences) = list else {
+    let Ok(occurrences) = list else {
         return println!(rt; "    overflow: the occurrences did not fit");
     };
     for o in occurrences {
@@ -67,8 +66,7 @@ fn show_list(rt: &HostRuntime, list: OccurrenceList) -> io::Result<()> {
 }
 
 fn show_items(rt: &HostRuntime, items: Items) -> io::Result<()> {
-    let mut items = items;
-    while let Some(item) = items.next() {
+    for item in items {
         let event = EventName(item.identifier);
         let switch = if item.on { "on" } else { "off" };
         println!(rt; "    {event}: {switch}")?;

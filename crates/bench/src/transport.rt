@@ -53,9 +53,8 @@ pub fn show_delivery<C: Carrier>(
 pub fn show_packets(rt: &HostRuntime, carrier: &SmbusCarrier) -> io::Result<()> {
     for number in 0..carrier.packet_count() {
         let mut packet = [0u8; 73];
-        let n = carrier.copy_packet(number, &mut packet);
-        if n <= 73 {
-            let bytes = Hex(&packet[0..n]);
+        if let Some(n) = carrier.copy_packet(number, &mut packet) {
+            let bytes = Hex(&packet[..n]);
             println!(rt; "  packet {number}: {bytes}")?;
         }
     }

@@ -1,12 +1,12 @@
 -- The drive board's sources by place, and what another status makes of them. Assumes nothing.
-use Rattle.std.proofs.Common.{◌≡◌, ℕ, zero, suc, ◌-◌, ◌≤◌, Bool, true, false, cond, eqb, leb, [], ◌∷◌, length, Some, Option, sym, refl, ap, ◌∙◌, ⊎_elim, arith}
+use Rattle.std.proofs.Common.{◌≡◌, ℕ, zero, suc, ◌-◌, ◌≤◌, Bool, true, false, cond, eqb, leb, [], ◌∷◌, length, Some, sym, refl, ap, ◌∙◌, ⊎_elim, arith}
 use Rattle.std.proofs.lemmas.Bool.{cases_Bool, and_parts, eqb-true}
 use Rattle.event.specs.Bytes.{Bytes, byte}
 use Rattle.event.specs.Sources.{lawful_id, one_byte, lawful_reading}
 use Rattle.std.proofs.lemmas.List.{nil_from_length}
 use Rattle.std.proofs.lemmas.Bool.Decides.{nat_tests}
 use Rattle.keys.specs.Keys.{among, twice}
-use Rattle.board.specs.Boards.{Sources, ids, at, reading_of, all_lawful, lawful_board, takes, reread, after_set}
+use Rattle.board.specs.Boards.{Sources, ids, at, all_lawful, lawful_board, takes, reread, after_set}
 use Rattle.board.specs.Drives.{of_controller, of_subsystem, drive_sources, new_drive, Sets}
 use Rattle.board.specs.declared.status.DriveStatus.{DriveStatus}
 use Rattle.board.proofs.Rereads.{takes_past, after_taken, after_refused}
@@ -47,10 +47,6 @@ id_subsystem d place low high =
     let k = later low in
     let few : k.0 ≤ 5 = omega (arith, k.1) in
     rw k.1 (from_five d k.0 few)
-
--- the reading at a place that is known
-pub reading-at : {place : ℕ} {r : Option Bytes} (d : DriveStatus) (n : ℕ) → place ≡ n → r ≡ reading_of (at (drive_sources d) n) → r ≡ reading_of (at (drive_sources d) place)
-reading-at d n e h = h ∙ ap (λ p. reading_of (at (drive_sources d) p)) (sym e)
 
 -- SETS
 

@@ -1,7 +1,9 @@
 -- What a set leaves of a board. Assumes nothing.
 use Rattle.std.proofs.Common.{◌≡◌, ℕ, zero, suc, ◌<◌, ◌≤◌, true, false, not, ◌&&◌, leb, List, [], ◌∷◌, length, Some, None, sym, refl, ap, ◌∙◌, subst, ⊎_elim, arith}
 use Rattle.std.proofs.lemmas.Bool.{cases_Bool, and_parts, and_from, leb-true, false≢true}
+use Rattle.std.proofs.lemmas.Option.{none-some, same_Some}
 use Rattle.keys.specs.Keys.{twice}
+use Rattle.event.specs.declared.id.UniqueId.{UniqueId}
 use Rattle.event.specs.Bytes.{Bytes, within}
 use Rattle.event.specs.Sources.{Occurrence, occurrence, same_id, lawful_id, lawful_reading, lawful_occurrence}
 use Rattle.board.specs.Boards.{Sources, ids, at, all_lawful, lawful_board, takes, reread, after_set}
@@ -25,16 +27,23 @@ at-below (x ∷ l) (suc place) h = at-below l place (omega arith)
 -- a place where something stands is below the length
 pub at-inside : {A : Type 0} (l : List A) (place : ℕ) (x : A) → at l place ≡ Some x → place < length l
 unfolding at
-at-inside [] place x e = let z : ◌≡◌ {A = ℕ} 0 1 = cc in absurd (omega arith)
+at-inside [] place x e = absurd (none-some x e)
 at-inside (y ∷ l) zero x e = omega arith
 at-inside (y ∷ l) (suc place) x e = let h = at-inside l place x e in omega arith
 
 -- the ID at a place is that of the source there
 pub at-ids : (told : Sources) (place : ℕ) (s : Occurrence) → at told place ≡ Some s → at (ids told) place ≡ Some s.id
 unfolding at
-at-ids [] place s e = let z : ◌≡◌ {A = ℕ} 0 1 = cc in absurd (omega arith)
-at-ids (t ∷ told) zero s e = let f : t ≡ s = cc in ap (λ (o : Occurrence). Some o.id) f
+at-ids [] place s e = absurd (none-some s e)
+at-ids (t ∷ told) zero s e = ap (λ (o : Occurrence). Some o.id) (same_Some t s e)
 at-ids (t ∷ told) (suc place) s e = at-ids told place s e
+
+-- a place that has an ID has a source
+pub at_source : (told : Sources) (place : ℕ) (u : UniqueId) → at (ids told) place ≡ Some u → (s : Occurrence) × (at told place ≡ Some s) × (s.id ≡ u)
+unfolding at
+at_source [] place u e = absurd (none-some u e)
+at_source (s ∷ told) zero u e = (s, refl, same_Some s.id u e)
+at_source (s ∷ told) (suc place) u e = at_source told place u e
 
 -- there are as many IDs as sources
 pub length_ids : (told : Sources) → length (ids told) ≡ length told
@@ -57,8 +66,8 @@ length-reread told place r = sym (length_ids (reread told place r)) ∙ ap lengt
 -- at its place the source has the reading
 pub at_reread_same : (told : Sources) (place : ℕ) (r : Bytes) (s : Occurrence) → at told place ≡ Some s → at (reread told place r) place ≡ Some (occurrence s.id r)
 unfolding at reread
-at_reread_same [] place r s e = let z : ◌≡◌ {A = ℕ} 0 1 = cc in absurd (omega arith)
-at_reread_same (t ∷ told) zero r s e = let f : t ≡ s = cc in ap (λ (o : Occurrence). Some (occurrence o.id r)) f
+at_reread_same [] place r s e = absurd (none-some s e)
+at_reread_same (t ∷ told) zero r s e = ap (λ (o : Occurrence). Some (occurrence o.id r)) (same_Some t s e)
 at_reread_same (t ∷ told) (suc place) r s e = at_reread_same told place r s e
 
 -- at every other place all is as it was

@@ -1,162 +1,112 @@
--- The table board's columns, and what a set makes of them. Assumes nothing.
-use Rattle.std.proofs.Common.{◌≡◌, ℕ, zero, suc, ◌-◌, ◌<◌, ◌≤◌, Bool, true, false, cond, not, eqb, leb, List, [], ◌∷◌, map, length, get_or, take, set, Some, None, Option, sym, refl, ap, ◌∙◌, ⊎_elim, arith}
-use native.Mathlib.Nat.{sub-zero}
-use Rattle.std.proofs.lemmas.Bool.{cases_Bool, and_parts, eqb-true, leb-true, le-leb}
+-- The table board's rows, and what a set makes of them. Assumes nothing.
+use Rattle.std.proofs.Common.{◌≡◌, ℕ, zero, suc, ◌<◌, Bool, true, false, cond, not, ◌&&◌, leb, List, [], ◌∷◌, Bor, map, length, get_or, set, Some, None, Ok, Err, Option, sym, refl, ap, ◌∙◌}
+use Rattle.std.specs.List.{slice_get, list_all}
+use Rattle.std.specs.Option.{option_map, MatchOption, IsSomeAnd}
+use Rattle.std.specs.Slice.{IsItemAt}
+use Rattle.std.proofs.lemmas.List.{set-get_or}
+use Rattle.std.proofs.lemmas.Option.{cond_some, slice_get_past, slice_get_read}
 use Rattle.keys.specs.Keys.{twice}
-use Rattle.event.specs.Bytes.{Bytes, byte, within}
-use Rattle.event.specs.Sources.{occurrence, same_id, is_vendor, one_byte, lawful_reading}
-use Rattle.event.specs.View.{held, occurrence_of}
+use Rattle.event.specs.Bytes.{Bytes, within}
+use Rattle.event.specs.Sources.{same_id, lawful_reading, lawful_occurrence}
+use Rattle.event.specs.View.{held, held_if, occurrence_of}
 use Rattle.event.specs.declared.id.UniqueId.{UniqueId}
 use Rattle.event.specs.declared.occurrence.Occurrence.{Occurrence as Row}
 use Rattle.event.specs.declared.reading.Reading.{Reading}
 use Rattle.event.specs.declared.refusal.Refusal.TheVariants.{RowCount, UnlawfulRow, RowTwice}
-use Rattle.board.specs.Boards.{Sources, ids, at, reading_of, all_lawful, lawful_board, lawful_if, takes, reread, after_set}
-use Rattle.board.specs.Tables.{paired, table_sources, rows_told, row_refusal, Columns}
-use Rattle.board.proofs.Rereads.{after_taken, lawful_from}
-
--- THE COLUMNS
-
--- a table board has as many sources as it counts
-pub length-table : (us : List UniqueId) (rs : List Reading) (n : ℕ) → n ≤ length us → n ≤ length rs → length (table_sources us rs n) ≡ n
-unfolding table_sources paired
-length-table us rs zero p q = refl
-length-table [] rs (suc n) p q = absurd (omega arith)
-length-table (u ∷ us) [] (suc n) p q = absurd (omega arith)
-length-table (u ∷ us) (r ∷ rs) (suc n) p q = ap suc (length-table us rs n (omega arith) (omega arith))
-
--- the ID at a place stands there in its column
-pub table-id : (us : List UniqueId) (rs : List Reading) (n place : ℕ) (d : UniqueId) → n ≤ length us → n ≤ length rs → place < n → at (ids (table_sources us rs n)) place ≡ Some (get_or us place d)
-unfolding table_sources paired at
-table-id us rs zero place d p q h = absurd (omega arith)
-table-id [] rs (suc n) place d p q h = absurd (omega arith)
-table-id (u ∷ us) [] (suc n) place d p q h = absurd (omega arith)
-table-id (u ∷ us) (r ∷ rs) (suc n) zero d p q h = refl
-table-id (u ∷ us) (r ∷ rs) (suc n) (suc place) d p q h = table-id us rs n place d (omega arith) (omega arith) (omega arith)
-
--- the reading at a place stands there in its column
-pub table-reading : (us : List UniqueId) (rs : List Reading) (n place : ℕ) (d : Reading) → n ≤ length us → n ≤ length rs → place < n → reading_of (at (table_sources us rs n) place) ≡ Some (held (get_or rs place d))
-unfolding table_sources paired at
-table-reading us rs zero place d p q h = absurd (omega arith)
-table-reading [] rs (suc n) place d p q h = absurd (omega arith)
-table-reading (u ∷ us) [] (suc n) place d p q h = absurd (omega arith)
-table-reading (u ∷ us) (r ∷ rs) (suc n) zero d p q h = refl
-table-reading (u ∷ us) (r ∷ rs) (suc n) (suc place) d p q h = table-reading us rs n place d (omega arith) (omega arith) (omega arith)
-
--- another reading in the column is another reading of the board
-pub table-reread : (us : List UniqueId) (rs : List Reading) (n place : ℕ) (r : Reading) → reread (table_sources us rs n) place (held r) ≡ table_sources us (set rs place r) n
-unfolding table_sources paired reread
-table-reread us rs zero place r = refl
-table-reread [] rs (suc n) place r = refl
-table-reread (u ∷ us) [] (suc n) place r = refl
-table-reread (u ∷ us) (x ∷ rs) (suc n) zero r = refl
-table-reread (u ∷ us) (x ∷ rs) (suc n) (suc place) r = ap (λ (l : Sources). occurrence u (held x) ∷ l) (table-reread us rs n place r)
-
--- a row allows the readings that its unique ID allows
-pub table-takes : (us : List UniqueId) (rs : List Reading) (n place : ℕ) (r : Bytes) (d : UniqueId) → n ≤ length us → n ≤ length rs → place < n → takes (table_sources us rs n) place r ≡ lawful_reading (get_or us place d).identifier r
-unfolding takes
-table-takes us rs n place r d p q h = ap (λ (o : Option UniqueId). lawful_if o r) (table-id us rs n place d p q h)
-
--- a reading that is put into the column at a place that allows it
-table-after : (us : List UniqueId) (rs : List Reading) (n place : ℕ) (r : Bytes) (new : Reading) → takes (table_sources us rs n) place r ≡ true → held new ≡ r → table_sources us (set rs place new) n ≡ after_set (table_sources us rs n) place r
-table-after us rs n place r new took is =
-    sym (table-reread us rs n place new) ∙ ap (reread (table_sources us rs n) place) is ∙ sym (after_taken (table_sources us rs n) place r took)
-
--- READINGS
-
--- a lawful reading has at most 64 bytes
-one_short : (most : ℕ) (r : Bytes) → one_byte most r ≡ true → length r ≤ 64
-one_short most r e = let one = eqb-true (length r) 1 (and_parts (eqb (length r) 1) (leb (byte r 0) most) e).0 in omega arith
-
-none-short : (r : Bytes) → eqb (length r) 0 ≡ true → length r ≤ 64
-none-short r e = let none = eqb-true (length r) 0 e in omega arith
-
-either_way : {P : Type 0} {x y : Bool} (b : Bool) → (x ≡ true → P) → (y ≡ true → P) → cond b x y ≡ true → P
-either_way true f g e = f e
-either_way false f g e = g e
-
-pub lawful-short : (identifier : ℕ) (r : Bytes) → lawful_reading identifier r ≡ true → length r ≤ 64
-unfolding lawful_reading
-lawful-short identifier r =
-    either_way (leb identifier 0x01) (one_short 1 r)
-    (either_way (eqb identifier 0x02) (one_short 7 r)
-    (either_way (eqb identifier 0x03) (one_short 3 r)
-    (either_way (within 0x04 0x05 identifier) (none-short r)
-    (either_way (within 0x06 0x09 identifier) (one_short 0xFF r)
-    (either_way (eqb identifier 0x0A) (none-short r)
-    (either_way (eqb identifier 0x0B) (one_short 1 r)
-    (λ e. leb-true (length r) 64 (and_parts (is_vendor identifier) (leb (length r) 64) e).1)))))))
-
--- a reading that was made of bytes has these
-held-is : (new : Reading) (r : Bytes) → Some (held new) ≡ cond (leb (length r) 64) (Some r) None → held new ≡ r
-held-is new r e =
-    ⊎_elim
-    (λ short. let f = e ∙ ap (λ (b : Bool). cond b (Some r) None) short in cc)
-    (λ long. let f = e ∙ ap (λ (b : Bool). cond b (Some r) None) long in let z : ◌≡◌ {A = ℕ} 0 1 = cc in absurd (omega arith))
-    (cases_Bool (leb (length r) 64))
-
--- of at most 64 bytes a reading is made
-pub held-some : (r : Bytes) → length r ≤ 64 → None ≡ cond (leb (length r) 64) (Some r) None → ⊥
-held-some r h e =
-    let short : leb (length r) 64 ≡ true = le-leb (length r) 64 h in
-    let f = e ∙ ap (λ (b : Bool). cond b (Some r) None) short in
-    let z : ◌≡◌ {A = ℕ} 0 1 = cc in
-    omega arith
+use Rattle.board.specs.Boards.{Sources, ids, at, reading_of, all_lawful, lawful_board, takes, reread, after_set}
+use Rattle.board.specs.Tables.{rows_told, row_refusal, board_of}
+use Rattle.board.proofs.Rereads.{takes_at, after_taken, after_refused, lawful_from}
 
 -- ROWS
 
--- what is told of the fronts of two columns
-table-fronts : (us : List UniqueId) (rs : List Reading) (n : ℕ) → table_sources us rs n ≡ paired (take n us) (take n rs)
-unfolding table_sources paired
-table-fronts us rs zero = refl
-table-fronts [] rs (suc n) = refl
-table-fronts (u ∷ us) [] (suc n) = refl
-table-fronts (u ∷ us) (r ∷ rs) (suc n) = ap (λ (l : Sources). occurrence u (held r) ∷ l) (table-fronts us rs n)
+-- what stands at a place is what the row there tells
+at_row : (rows : List Row) (place : ℕ) → at (rows_told rows) place ≡ option_map occurrence_of (slice_get rows place)
+unfolding at
+at_row [] place = refl
+at_row (row ∷ rows) zero = refl
+at_row (row ∷ rows) (suc place) = at_row rows place
 
--- rows, taken apart into two columns
-apart : (rows : List Row) → paired (map (λ (row : Row). row.id) rows) (map (λ (row : Row). row.reading) rows) ≡ rows_told rows
-unfolding paired
-apart [] = refl
-apart (row ∷ rows) = ap (λ (l : Sources). occurrence_of row ∷ l) (apart rows)
+-- its ID is that of the row
+pub id_row : (rows : List Row) (place : ℕ) → at (ids (rows_told rows)) place ≡ option_map (λ (row : Row). row.id) (slice_get rows place)
+unfolding at
+id_row [] place = refl
+id_row (row ∷ rows) zero = refl
+id_row (row ∷ rows) (suc place) = id_row rows place
 
-rows-ids : (rows : List Row) → ids (rows_told rows) ≡ map (λ (row : Row). row.id) rows
-rows-ids [] = refl
-rows-ids (row ∷ rows) = ap (λ (us : List UniqueId). row.id ∷ us) (rows-ids rows)
+-- and its reading
+pub reading_row : (rows : List Row) (place : ℕ) → reading_of (at (rows_told rows) place) ≡ held_if (option_map (λ (row : Row). row.reading) (slice_get rows place))
+unfolding at
+reading_row [] place = refl
+reading_row (row ∷ rows) zero = refl
+reading_row (row ∷ rows) (suc place) = reading_row rows place
 
-pub rows-length : (rows : List Row) → length (rows_told rows) ≡ length rows
-rows-length [] = refl
-rows-length (row ∷ rows) = ap suc (rows-length rows)
+-- all IDs are those of the rows
+pub ids_rows : (rows : List Row) → ids (rows_told rows) ≡ map (λ (row : Row). row.id) rows
+ids_rows [] = refl
+ids_rows (row ∷ rows) = ap (λ (us : List UniqueId). row.id ∷ us) (ids_rows rows)
 
--- the columns of rows tell the rows
-pub columns_tell : (rows : List Row) (us : List UniqueId) (rs : List Reading) → Columns rows us rs → table_sources us rs (length rows) ≡ rows_told rows
-columns_tell rows us rs c = table-fronts us rs (length rows) ∙ (λ i. paired (c.named i) (c.read i)) ∙ apart rows
+-- rows are lawful exactly if each is
+pub each_lawful : (rows : List Row) → list_all (λ (row : Row). lawful_occurrence (occurrence_of row)) rows ≡ all_lawful (rows_told rows)
+unfolding all_lawful
+each_lawful [] = refl
+each_lawful (row ∷ rows) = ap (λ (b : Bool). lawful_occurrence (occurrence_of row) && b) (each_lawful rows)
 
--- the IDs of rows stand at the front of their column
-pub columns_ids : (rows : List Row) (us : List UniqueId) (rs : List Reading) → Columns rows us rs → ids (rows_told rows) ≡ take (length rows - 0) us
-columns_ids rows us rs c = rows-ids rows ∙ sym c.named ∙ ap (λ (k : ℕ). take k us) (sym (sub-zero (length rows)))
+-- a look at a place, and the part that is taken of the row there
+pub looked : {Y : Type 0} {P : Bor Row → Y → Type 0} {seen : List Row} (o : Option (Bor Row)) (r : Option Y) (part : Row → Y) (rows : List Row) (place : ℕ) → seen ≡ rows → IsItemAt seen place o → MatchOption o (r ≡ None) (λ x. IsSomeAnd r (P x)) → ((x : Bor Row) (y : Y) → P x y → y ≡ part x.now) → r ≡ option_map part (slice_get rows place)
+looked {seen = seen} None r part rows place same here e says =
+    e ∙ ap (option_map part) (sym (slice_get_past seen place here.3)) ∙ ap (λ (l : List Row). option_map part (slice_get l place)) same
+looked (Some x) None part rows place same here e says = absurd e
+looked {seen = seen} (Some x) (Some y) part rows place same here e says =
+    ap Some (says x y e)
+    ∙ ap (option_map part) (sym (slice_get_read seen (length seen) place x.now refl here.3.0 here.1))
+    ∙ ap (λ (l : List Row). option_map part (slice_get l place)) same
 
 -- A SET
 
--- a reading that its unique ID allows is taken, and stands in the column after it
-pub table-set : (us : List UniqueId) (rs : List Reading) (n place : ℕ) (r : Bytes) (d : UniqueId) (new : Reading) → n ≤ length us → n ≤ length rs → place < n → true ≡ lawful_reading (get_or us place d).identifier r → Some (held new) ≡ cond (leb (length r) 64) (Some r) None → (true ≡ takes (table_sources us rs n) place r) × (table_sources us (set rs place new) n ≡ after_set (table_sources us rs n) place r)
-table-set us rs n place r d new p q h allows made =
-    let took = table-takes us rs n place r d p q h ∙ sym allows in
-    (sym took, table-after us rs n place r new took (held-is new r made))
+-- a row allows the readings that its unique ID allows
+takes_row : (rows : List Row) (place : ℕ) (r : Bytes) (row : Row) → place < length rows → row ≡ get_or rows place row → takes (rows_told rows) place r ≡ lawful_reading row.id.identifier r
+takes_row rows place r row h is = takes_at (rows_told rows) place r (occurrence_of row) (at_row rows place ∙ ap (option_map occurrence_of) (slice_get_read rows (length rows) place row refl h is))
+
+-- another reading in the row is another reading of the board
+reread_row : (rows : List Row) (place : ℕ) (d : Row) (new : Reading) → rows_told (set rows place (record { id = (get_or rows place d).id; reading = new })) ≡ reread (rows_told rows) place (held new)
+unfolding reread
+reread_row [] place d new = refl
+reread_row (row ∷ rows) zero d new = refl
+reread_row (row ∷ rows) (suc place) d new = ap (λ (l : Sources). occurrence_of row ∷ l) (reread_row rows place d new)
+
+-- a reading that the row does not allow changes nothing
+pub row-left : (rows : List Row) (place : ℕ) (r : Bytes) (row : Row) → place < length rows → row ≡ get_or rows place row → false ≡ lawful_reading row.id.identifier r → (false ≡ takes (rows_told rows) place r) × (rows_told (set rows place row) ≡ after_set (rows_told rows) place r)
+row-left rows place r row h is not-allowed =
+    let refused = takes_row rows place r row h is ∙ sym not-allowed in
+    (sym refused, ap rows_told (ap (set rows place) is ∙ set-get_or rows place row) ∙ sym (after_refused (rows_told rows) place r refused))
+
+-- a reading that it allows is taken, and stands in the row after it
+pub row-set : (rows : List Row) (place : ℕ) (r : Bytes) (row : Row) (new : Reading) → place < length rows → row ≡ get_or rows place row → true ≡ lawful_reading row.id.identifier r → Some (held new) ≡ cond (leb (length r) 64) (Some r) None → (true ≡ takes (rows_told rows) place r) × (rows_told (set rows place (record { id = row.id; reading = new })) ≡ after_set (rows_told rows) place r)
+row-set rows place r row new h is allows made =
+    let took = takes_row rows place r row h is ∙ sym allows in
+    let same = cond_some (leb (length r) 64) r (held new) (sym made) in (
+      sym took,
+      ap (λ (x : Row). rows_told (set rows place (record { id = x.id; reading = new }))) is
+          ∙ reread_row rows place row new
+          ∙ ap (reread (rows_told rows) place) (sym same.1)
+          ∙ sym (after_taken (rows_told rows) place r took),
+    )
 
 -- WHICH ROWS ARE REFUSED
 
-pub refuse_count : (rows : Sources) → within 1 64 (length rows) ≡ false → row_refusal rows ≡ Some RowCount
+pub refuse_count : (rows : Sources) → within 1 64 (length rows) ≡ false → Err RowCount ≡ board_of (row_refusal rows) rows
 unfolding row_refusal
 refuse_count rows few = rw few refl
 
-pub refuse_unlawful : (rows : Sources) → within 1 64 (length rows) ≡ true → all_lawful rows ≡ false → row_refusal rows ≡ Some UnlawfulRow
+pub refuse_unlawful : (rows : Sources) → within 1 64 (length rows) ≡ true → all_lawful rows ≡ false → Err UnlawfulRow ≡ board_of (row_refusal rows) rows
 unfolding row_refusal
 refuse_unlawful rows few all = rw (few, all) refl
 
-pub refuse_twice : (rows : Sources) → within 1 64 (length rows) ≡ true → all_lawful rows ≡ true → twice same_id (ids rows) ≡ true → row_refusal rows ≡ Some RowTwice
+pub refuse_twice : (rows : Sources) → within 1 64 (length rows) ≡ true → all_lawful rows ≡ true → twice same_id (ids rows) ≡ true → Err RowTwice ≡ board_of (row_refusal rows) rows
 unfolding row_refusal
 refuse_twice rows few all again = rw (few, all, again) refl
 
-pub refuse_none : (rows : Sources) → within 1 64 (length rows) ≡ true → all_lawful rows ≡ true → twice same_id (ids rows) ≡ false → row_refusal rows ≡ None
+pub refuse_none : (rows : Sources) → within 1 64 (length rows) ≡ true → all_lawful rows ≡ true → twice same_id (ids rows) ≡ false → Ok rows ≡ board_of (row_refusal rows) rows
 unfolding row_refusal
 refuse_none rows few all once = rw (few, all, once) refl
 

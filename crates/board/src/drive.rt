@@ -4,7 +4,7 @@ ghost use Rattle.event.specs.Bytes.{byte};
 ghost use Rattle.event.specs.Sources.{one_byte};
 ghost use Rattle.board.specs.Boards.{lawful_board};
 ghost use Rattle.board.specs.Drives.{drive_sources, new_drive, Sets};
-ghost use Rattle.std.proofs.Common.{rules, arith};
+ghost use Rattle.std.proofs.Common.{rules};
 
 use crate::Board;
 use crate::status::DriveStatus;
@@ -25,15 +25,7 @@ impl DriveBoard {
     {
         let status = DriveStatus {
             controller,
-            controller_ready: 0,
-            controller_fatal: 0,
-            shutdown_status: 0,
-            controller_enable: 0,
-            composite_temperature: 0,
-            drive_life_used: 0,
-            available_spare: 0,
-            smart_warnings: 0,
-            link_active: 0,
+            ..DriveStatus::default()
         };
         DriveBoard { status }
     }
@@ -43,33 +35,29 @@ impl DriveBoard {
 impl Board for DriveBoard {
     ghost told = { λ b. drive_sources b.status };
 
-    ghost lawful = { first_of (Prim.search rules, Prim.grind (arith, Self.row.coded.inj)) };
+    ghost lawful = { Prim.search rules };
 
+    #[tactic(auto, unfolding(crate::specs::Drives::drive_sources))]
     fn count(&self) -> usize {
         12
     }
 
     fn id(&self, place: usize) -> Option<UniqueId> {
-        match place {
-            0..=4 => Some(UniqueId {
-                identifier: place as u8,
-                scope: 1,
-                info: u32::from(self.status.controller),
-            }),
-            5..=10 => Some(UniqueId {
-                identifier: place as u8,
-                scope: 2,
-                info: 0,
-            }),
-            11 => Some(UniqueId {
-                identifier: 0x0B,
-                scope: 4,
-                info: 0x1_0000,
-            }),
-            _ => None,
-        }
+        let identifier = u8::try_from(place).ok()?;
+        let (scope, info) = match identifier {
+            0x00..=0x04 => (1, u32::from(self.status.controller)),
+            0x05..=0x0A => (2, 0),
+            0x0B => (4, 0x1_0000),
+            _ => return None,
+        };
+        Some(UniqueId {
+            identifier,
+            scope,
+            info,
+        })
     }
 
+    #[tactic(auto, unfolding(crate::specs::Drives::drive_sources, crate::specs::Boards::at))]
     fn reading(&self, place: usize) -> Option<Reading> {
         match place {
             0 => Reading::new(&[self.status.controller_ready]),
@@ -121,9 +109,11 @@ fn put(status: &mut u8, most: u8, reading: &[u8]) -> bool
     ensures taken { result ≡ one_byte most reading.now }
     ensures after { status.new ≡ (if one_byte most reading.now then byte reading.now 0 else status.old) }
 {
-    if reading.len() != 1 || reading[0] > most {
-        return false;
+    match reading {
+        &[byte] if byte <= most => {
+            *status = byte;
+            true
+        }
+        _ => false,
     }
-    *status = reading[0];
-    true
 }

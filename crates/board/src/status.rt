@@ -2,7 +2,7 @@
 
 /// The controller ID that a drive board was given, and each status in a field of its own. 04h, 05h and 0Ah have no
 /// status: their readings are empty.
-#[derive(Drop)]
+#[derive(Default, Drop)]
 pub struct DriveStatus {
     pub(crate) controller: u16,
     pub(crate) controller_ready: u8,

@@ -1,91 +1,74 @@
 //! The table board: sources from rows.
-ghost use Rattle.std.specs.Prelude.{◌≡◌, ◌≤◌, true, length};
+ghost use Rattle.std.specs.Prelude.{◌≡◌, true, map};
 ghost use Rattle.event.specs.Sources.{lawful_occurrence};
 ghost use Rattle.event.specs.View.{occurrence_of};
 ghost use Rattle.board.specs.Boards.{lawful_board, all_lawful};
-ghost use Rattle.board.specs.Tables.{table_sources, rows_told, row_refusal, board_of, told_if, Columns};
-ghost use Rattle.std.proofs.Common.{rules, arith};
+ghost use Rattle.board.specs.Tables.{table_sources, rows_told, row_refusal, board_of, told_if};
+ghost use Rattle.std.proofs.Common.{rules};
 
 use crate::Board;
+use arrayvec::ArrayVec;
 use event::id::UniqueId;
 use event::occurrence::Occurrence;
 use event::reading::Reading;
 use event::refusal::Refusal;
 use keys::has_twice;
 
-/// A board of up to 64 rows: the unique IDs in one column, since the search for a key goes over it, and their readings
-/// in another.
+/// A board of up to 64 rows, each a unique ID with its present reading.
 #[derive(Drop)]
 pub struct TableBoard {
-    ids: [UniqueId; 64],
-    readings: [Reading; 64],
-    count: usize,
-    ghost few: { count ≤ 64 },
-    ghost named: { length ids ≡ 64 },
-    ghost read: { length readings ≡ 64 },
-    ghost lawful: { lawful_board (table_sources ids readings count) ≡ true },
+    rows: ArrayVec<Occurrence, 64>,
+    ghost lawful: { lawful_board (table_sources rows) ≡ true },
 }
 
 impl TableBoard {
     /// A board of these rows, or why not: there are not 1 to 64 of them, one is unlawful, or an ID stands in two.
     pub fn new(rows: &[Occurrence]) -> Result<TableBoard, Refusal>
-        ensures { told_if (λ b. table_sources b.ids b.readings b.count) result ≡ board_of (row_refusal (rows_told rows.now)) (rows_told rows.now) }
+        ensures { told_if (λ b. table_sources b.rows) result ≡ board_of (row_refusal (rows_told rows.now)) (rows_told rows.now) }
     {
-        if rows.len() < 1 || rows.len() > 64 {
+        if rows.is_empty() {
             return Err(Refusal::RowCount);
         }
-        if !all_lawful(rows) {
+        let rows = ArrayVec::try_from(rows).map_err(|_| Refusal::RowCount)?;
+        if !all_lawful(&rows) {
             return Err(Refusal::UnlawfulRow);
         }
-        let (ids, readings) = columns(rows);
-        if has_twice(&ids[0..rows.len()]) {
+        if has_twice(&ids(&rows)) {
             return Err(Refusal::RowTwice);
         }
-        Ok(TableBoard {
-            ids,
-            readings,
-            count: rows.len(),
-        })
+        Ok(TableBoard { rows })
     }
 }
 
 /// A table board tells its rows.
 impl Board for TableBoard {
-    ghost told = { λ b. table_sources b.ids b.readings b.count };
+    ghost told = { λ b. table_sources b.rows };
 
-    ghost lawful = { first_of (Prim.search rules, Prim.grind (arith, Self.row.coded.inj)) };
+    ghost lawful = { Prim.search rules };
 
     fn count(&self) -> usize {
-        self.count
+        self.rows.len()
     }
 
     fn id(&self, place: usize) -> Option<UniqueId> {
-        if place < self.count {
-            Some(self.ids[place])
-        } else {
-            None
-        }
+        self.rows.get(place).map(|row| row.id)
     }
 
     fn reading(&self, place: usize) -> Option<Reading> {
-        if place < self.count {
-            Some(self.readings[place])
-        } else {
-            None
-        }
+        self.rows.get(place).map(|row| row.reading)
     }
 
     fn set(&mut self, place: usize, reading: &[u8]) -> bool {
-        if place >= self.count {
+        let Some(row) = self.rows.get_mut(place) else {
             return false;
-        }
-        if !self.ids[place].allows(reading) {
+        };
+        if !row.id.allows(reading) {
             return false;
         }
         let Some(held) = Reading::new(reading) else {
             return false;
         };
-        self.readings[place] = held;
+        row.reading = held;
         true
     }
 }
@@ -94,12 +77,7 @@ impl Board for TableBoard {
 fn all_lawful(rows: &[Occurrence]) -> bool
     ensures { result ≡ all_lawful (rows_told rows.now) }
 {
-    for row in rows {
-        if !is_lawful(row) {
-            return false;
-        }
-    }
-    true
+    rows.iter().all(is_lawful)
 }
 
 // Whether a row has a lawful unique ID and a lawful reading.
@@ -109,21 +87,14 @@ fn is_lawful(row: &Occurrence) -> bool
     row.id.is_lawful() && row.id.allows(row.reading.as_bytes())
 }
 
-// The rows' unique IDs and their readings, in two columns.
-fn columns(rows: &[Occurrence]) -> ([UniqueId; 64], [Reading; 64])
-    requires { length rows.now ≤ 64 }
-    ensures { Columns rows.now result.0 result.1 }
+// The rows' unique IDs, as the search for a key takes them. A loop: `extend` may find the vector full, and would have to
+// be asked whether it did.
+fn ids(rows: &ArrayVec<Occurrence, 64>) -> ArrayVec<UniqueId, 64>
+    ensures { result.items ≡ map (λ row. row.id) rows.now.items }
 {
-    let blank = UniqueId {
-        identifier: 0,
-        scope: 0,
-        info: 0,
-    };
-    let mut ids = [blank; 64];
-    let mut readings = [Reading::empty(); 64];
-    for (i, row) in rows.iter().enumerate() {
-        ids[i] = row.id;
-        readings[i] = row.reading;
+    let mut ids = ArrayVec::new();
+    for row in rows.iter() {
+        ids.push(row.id);
     }
-    (ids, readings)
+    ids
 }

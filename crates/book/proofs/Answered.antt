@@ -1,9 +1,10 @@
 -- The list of an answer that is read is lawful. Assumes nothing.
-use Rattle.std.proofs.Common.{◌≡◌, ℕ, true, Some, None, Ok, Option, subst, arith}
+use Rattle.std.proofs.Common.{◌≡◌, ℕ, true, Some, None, Ok, Option, Result, subst, arith}
 use Rattle.event.specs.Bytes.{Bytes}
 use Rattle.list.specs.Lists.{lawful_told}
 use Rattle.list.specs.View.{told_by}
-use Rattle.list.specs.declared.types.OccurrenceList.{OccurrenceList}
+use Rattle.list.specs.declared.types.Occurrences.{Occurrences}
+use Rattle.list.specs.declared.types.Overflow.{Overflow}
 use Rattle.wire.specs.Laws.{OnlyAnswer}
 use Rattle.wire.specs.Messages.{Answer as AnswerRead, read_answer}
 use Rattle.wire.specs.View.{answer, read_by, answer_in}
@@ -16,17 +17,17 @@ answer-is None a e = let z : ◌≡◌ {A = ℕ} 0 1 = cc in absurd (omega arith
 answer-is (Some b) a e = cc
 
 -- the list of an answer
-abbrev pub list_in : Message → Option OccurrenceList
-list_in (Sync slot delay retry items) = None
+abbrev pub list_in : Message → Option (Result Occurrences Overflow)
+list_in (Sync slot delays items) = None
 list_in (Ack slot list) = None
 list_in (Event generation retries list) = None
 list_in (Answer slot list) = Some list
 
 -- the list of an answer that is read is lawful
-pub answer-lawful : (bytes : Bytes) (m : Message) (l : OccurrenceList) → OnlyAnswer → Ok (read_by m) ≡ answer_in (read_answer bytes) → list_in m ≡ Some l → lawful_told (told_by l) ≡ true
-answer-lawful bytes (Sync slot delay retry items) l only e f = let z : ◌≡◌ {A = ℕ} 0 1 = cc in absurd (omega arith)
+pub answer-lawful : (bytes : Bytes) (m : Message) (l : Result Occurrences Overflow) → OnlyAnswer → Ok (read_by m) ≡ answer_in (read_answer bytes) → list_in m ≡ Some l → lawful_told (told_by l) ≡ true
+answer-lawful bytes (Sync slot delays items) l only e f = let z : ◌≡◌ {A = ℕ} 0 1 = cc in absurd (omega arith)
 answer-lawful bytes (Ack slot list) l only e f = let z : ◌≡◌ {A = ℕ} 0 1 = cc in absurd (omega arith)
 answer-lawful bytes (Event generation retries list) l only e f = let z : ◌≡◌ {A = ℕ} 0 1 = cc in absurd (omega arith)
 answer-lawful bytes (Answer slot list) l only e f =
     let same : list ≡ l = cc in
-    subst (λ (x : OccurrenceList). lawful_told (told_by x) ≡ true) same (only bytes _ (answer-is (read_answer bytes) _ e)).lawful
+    subst (λ (x : Result Occurrences Overflow). lawful_told (told_by x) ≡ true) same (only bytes _ (answer-is (read_answer bytes) _ e)).lawful

@@ -1,12 +1,23 @@
 -- Questions that were asked before others, and requests that they refuse. Assumes nothing.
-use Rattle.std.proofs.Common.{◌≡◌, ℕ, Bool, true, false, List, [], ◌∷◌, ◌++◌, Some, None, Err, Option, sym, refl, ap, arith}
+use Rattle.std.proofs.Common.{◌≡◌, ℕ, Bool, true, false, List, [], ◌∷◌, ◌++◌, Some, None, Ok, Err, Option, sym, refl, ap, arith}
 use Rattle.event.specs.declared.refusal.Refusal.{Refusal}
 use Rattle.event.specs.Bytes.{Bytes}
 use Rattle.event.specs.Outcomes.{Gives, unless}
 use Rattle.event.specs.Refusals.{Question, ask, first_no}
+use Rattle.board.specs.Changes.{handed_back}
 use Rattle.wire.specs.declared.types.Kind.{Kind}
 use Rattle.protocol.specs.Book.{Book, writes}
 use Rattle.book.specs.Turns.{Writes}
+
+-- a call that is not refused was asked nothing that is answered no
+pub all_asked : (q : Option Refusal) → Ok tt ≡ handed_back q → None ≡ q
+all_asked None e = refl
+all_asked (Some r) e = let z : ◌≡◌ {A = ℕ} 0 1 = cc in absurd (omega arith)
+
+-- a refusal that a call hands back is the first no
+pub asked_no : (q : Option Refusal) (r : Refusal) → Err r ≡ handed_back q → Some r ≡ q
+asked_no None r e = let z : ◌≡◌ {A = ℕ} 0 1 = cc in absurd (omega arith)
+asked_no (Some s) r e = cc
 
 -- questions that are all answered yes leave the refusal to those behind them
 pub all_yes : (qs rs : List Question) → None ≡ first_no qs → first_no (qs ++ rs) ≡ first_no rs

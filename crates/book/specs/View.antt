@@ -5,14 +5,7 @@ use Rattle.event.specs.declared.occurrence.Occurrence.{Occurrence as Told}
 use Rattle.event.specs.Sources.{Occurrence}
 use Rattle.event.specs.View.{occurrence_of}
 use Rattle.wire.specs.declared.types.Kind.{Kind}
-use Rattle.protocol.specs.Book.{Book, book_of}
-use Rattle.book.specs.Tables.{rows}
-use Rattle.book.specs.declared.parts.Book.{Book as Kept}
 use Rattle.book.specs.declared.parts.Receipt.{Receipt}
-
--- a book, with its table as a list of entries
-abbrev pub book_in : Kept → Book
-book_in b = book_of b.phase (rows b.table) b.remembered
 
 -- a count of bytes and a receipt, which is told by its kind; or a refusal
 abbrev pub handed : Result (ℕ × Receipt) Refusal → Result (ℕ × Kind) Refusal

@@ -8,6 +8,7 @@ ghost use Rattle.book.specs.Tables.{rows, entered};
 ghost use Rattle.book.specs.View.{occurrence_if};
 
 use crate::table::Table;
+use arrayvec::ArrayVec;
 use event::id::UniqueId;
 use event::occurrence::Occurrence;
 use event::reading::Reading;
@@ -19,15 +20,9 @@ impl Table {
     pub(crate) fn new() -> Table
         ensures { rows result ≡ [] }
     {
-        let none = UniqueId {
-            identifier: 0,
-            scope: 0,
-            info: 0,
-        };
         Table {
-            keys: [none; 64],
-            readings: [Reading::empty(); 64],
-            len: 0,
+            keys: ArrayVec::new(),
+            readings: ArrayVec::new(),
         }
     }
 
@@ -35,14 +30,15 @@ impl Table {
     pub(crate) fn clear(&mut self)
         ensures { rows self.new ≡ [] }
     {
-        self.len = 0;
+        self.keys.clear();
+        self.readings.clear();
     }
 
     // The reading that is entered for a source.
     pub(crate) fn get(&self, id: UniqueId) -> Option<Reading>
         ensures { held_if result ≡ entry_of id (rows self.now) }
     {
-        let i = find(&self.keys[0..self.len], &id)?;
+        let i = find(self.keys.as_slice(), &id)?;
         Some(self.readings[i])
     }
 
@@ -50,7 +46,7 @@ impl Table {
     pub(crate) fn at(&self, place: usize) -> Option<Occurrence>
         ensures { occurrence_if result ≡ in_place (rows self.now) place }
     {
-        if place >= self.len {
+        if place >= self.keys.len() {
             return None;
         }
         Some(Occurrence {
@@ -64,16 +60,15 @@ impl Table {
         ensures fits { result ≡ nat_le (length (with_entry (occurrence_of occurrence) (rows self.old))) 64 }
         ensures rows { rows self.new ≡ entered (occurrence_of occurrence) (rows self.old) }
     {
-        match find(&self.keys[0..self.len], &occurrence.id) {
+        match find(self.keys.as_slice(), &occurrence.id) {
             Some(i) => {
                 self.readings[i] = occurrence.reading;
                 true
             }
-            None if self.len >= 64 => false,
+            None if self.keys.is_full() => false,
             None => {
-                self.keys[self.len] = occurrence.id;
-                self.readings[self.len] = occurrence.reading;
-                self.len += 1;
+                self.keys.push(occurrence.id);
+                self.readings.push(occurrence.reading);
                 true
             }
         }
@@ -84,6 +79,7 @@ impl Table {
         ensures fits { result ≡ nat_le (length (with_entries (rows self.old) (left list.entry))) 64 }
         ensures rows { result ≡ true → rows self.new ≡ with_entries (rows self.old) (left list.entry) }
     {
+        // A loop: of what a closure changes, a proof knows nothing.
         for occurrence in list {
             if !self.enter(occurrence) {
                 return false;

@@ -2,17 +2,16 @@
 ghost use Rattle.std.specs.Prelude.{◌≡◌, ℕ, true, if◌then◌else◌, Ok, Err};
 ghost use Rattle.event.specs.declared.refusal.Refusal.TheVariants.{NoneAwaited};
 ghost use Rattle.event.specs.Refusals.{first_no};
+ghost use Rattle.board.specs.Changes.{handed_back};
 ghost use Rattle.list.specs.Lists.{these, lawful_told};
 ghost use Rattle.list.specs.View.{left, told_by};
 ghost use Rattle.wire.specs.Messages.{read_event, read_answer};
 ghost use Rattle.protocol.specs.Book.{blind, awaits as awaits_in, remembers as remembers_in, up_to64, merge as with_entries, answered_to, answer_told, answer_read, hears, heard};
-ghost use Rattle.book.specs.Tables.{rows};
 ghost use Rattle.book.specs.Turns.{request_questions, open_questions, Spends};
-ghost use Rattle.book.specs.View.{book_in};
 
 use crate::parts::{Book, Receipt};
 use event::refusal::Refusal;
-use list::types::{OccurrenceList, Occurrences};
+use list::types::{OccurrenceList, Occurrences, Overflow};
 use protocol::types::Phase;
 use wire::read::{read_answer, read_event};
 use wire::types::{Kind, Message};
@@ -20,7 +19,7 @@ use wire::types::{Kind, Message};
 impl Book {
     // Forgets all.
     pub(crate) fn go_blind(&mut self)
-        ensures { book_in self.new ≡ blind }
+        ensures { self.new ≡ blind }
     {
         self.table.clear();
         self.phase = Phase::Blind;
@@ -31,11 +30,7 @@ impl Book {
     fn awaits(&self, kind: Kind) -> bool
         ensures { result ≡ awaits_in kind self.now.phase }
     {
-        match (self.phase, kind) {
-            (Phase::Waiting { kind: Kind::Sync }, Kind::Sync) => true,
-            (Phase::Waiting { kind: Kind::Ack }, Kind::Ack) => true,
-            _ => false,
-        }
+        self.phase == Phase::Waiting { kind }
     }
 
     // Spends a receipt, and says of which kind it was, if a request of that kind is awaited.
@@ -50,27 +45,27 @@ impl Book {
         }
     }
 
-    // Why no request can be written into a buffer of this length now.
-    pub(crate) fn writing_refused(&self, room: usize) -> Option<Refusal>
-        ensures { result ≡ first_no (request_questions self.now.phase room) }
+    // Whether a request can be written into a buffer of this length now, or why not.
+    pub(crate) fn may_write(&self, room: usize) -> Result<(), Refusal>
+        ensures { result ≡ handed_back (first_no (request_questions self.now.phase room)) }
     {
         if room < 217 {
-            return Some(Refusal::RequestBufferShort);
+            return Err(Refusal::RequestBufferShort);
         }
         if let Phase::Waiting { .. } = self.phase {
-            return Some(Refusal::StillAwaiting);
+            return Err(Refusal::StillAwaiting);
         }
-        None
+        Ok(())
     }
 
-    // Why the book shows nothing now.
-    pub(crate) fn showing_refused(&self) -> Option<Refusal>
-        ensures { result ≡ first_no (open_questions self.now.phase) }
+    // Whether the book shows its entries now, or why not.
+    pub(crate) fn may_show(&self) -> Result<(), Refusal>
+        ensures { result ≡ handed_back (first_no (open_questions self.now.phase)) }
     {
         match self.phase {
-            Phase::Waiting { .. } => Some(Refusal::StillAwaiting),
-            Phase::Blind => Some(Refusal::BookBlind),
-            Phase::Settled | Phase::Holding => None,
+            Phase::Waiting { .. } => Err(Refusal::StillAwaiting),
+            Phase::Blind => Err(Refusal::BookBlind),
+            Phase::Settled | Phase::Holding => Ok(()),
         }
     }
 
@@ -78,15 +73,12 @@ impl Book {
     fn remembers(&self, generation: u8) -> bool
         ensures { result ≡ remembers_in self.now.remembered generation }
     {
-        match self.remembered {
-            Some(latest) => latest == generation,
-            None => false,
-        }
+        self.remembered == Some(generation)
     }
 
     // Enters a list, unless there is a 65th entry.
     fn absorb(&mut self, list: Occurrences, phase: Phase, remembered: Option<u8>)
-        ensures { book_in self.new ≡ up_to64 phase (with_entries (rows self.old.table) (left list.entry)) remembered }
+        ensures { self.new ≡ up_to64 phase (with_entries self.old.entries (left list.entry)) remembered }
     {
         if self.table.merge(list) {
             self.phase = phase;
@@ -99,7 +91,7 @@ impl Book {
     // Takes the occurrences of an answer to a request of this kind.
     fn settle(&mut self, kind: Kind, list: Occurrences)
         requires { lawful_told (these (left list)) ≡ true }
-        ensures { book_in self.new ≡ answered_to kind (left list.entry) (book_in self.old) }
+        ensures { self.new ≡ answered_to kind (left list.entry) self.old }
     {
         match kind {
             Kind::Sync => {
@@ -116,17 +108,17 @@ impl Book {
     // Takes the list of an answer to a request of this kind.
     fn take_list(&mut self, kind: Kind, list: OccurrenceList)
         requires { lawful_told (told_by list) ≡ true }
-        ensures { book_in self.new ≡ answer_told kind (told_by list.entry) (book_in self.old) }
+        ensures { self.new ≡ answer_told kind (told_by list.entry) self.old }
     {
         match list {
-            OccurrenceList::Overflow => self.go_blind(),
-            OccurrenceList::These(list) => self.settle(kind, list),
+            Ok(list) => self.settle(kind, list),
+            Err(Overflow) => self.go_blind(),
         }
     }
 
     // Takes the answer to a request of this kind.
     pub(crate) fn take_answer(&mut self, kind: Kind, bytes: &[u8]) -> Result<usize, Refusal>
-        ensures { Spends (answer_read kind (read_answer bytes.now) (book_in self.old)) (book_in self.new) result }
+        ensures { Spends (answer_read kind (read_answer bytes.now) self.old) self.new result }
     {
         let Ok(Message::Answer { list, .. }) = read_answer(bytes) else {
             self.go_blind();
@@ -138,21 +130,17 @@ impl Book {
 
     // Takes the list of a message of another generation than the remembered one.
     fn take_event(&mut self, generation: u8, list: OccurrenceList)
-        ensures { (retries : ℕ) → book_in self.new ≡ hears self.old.phase (book_in self.old) (record { generation = generation; retries = retries; told = told_by list.entry }) }
+        ensures { (retries : ℕ) → self.new ≡ hears self.old.phase self.old (record { generation = generation; retries = retries; told = told_by list.entry }) }
     {
         match (self.phase, list) {
-            (Phase::Settled, OccurrenceList::These(list)) => self.absorb(
-                list,
-                Phase::Holding,
-                Some(generation),
-            ),
+            (Phase::Settled, Ok(list)) => self.absorb(list, Phase::Holding, Some(generation)),
             _ => self.go_blind(),
         }
     }
 
     // Takes a message that was fetched, and counts its bytes.
     pub(crate) fn hear(&mut self, bytes: &[u8]) -> Result<usize, Refusal>
-        ensures { Spends (heard self.old.phase bytes.now (read_event bytes.now) (book_in self.old)) (book_in self.new) result }
+        ensures { Spends (heard self.old.phase bytes.now (read_event bytes.now) self.old) self.new result }
     {
         let Ok(
             Message::Event {

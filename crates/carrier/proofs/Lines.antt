@@ -1,11 +1,9 @@
 -- What the calls of a carrier leave and give. Assumes nothing.
-use Rattle.std.proofs.Common.{◌≡◌, ℕ, zero, suc, ◌-◌, ◌<◌, ◌≤◌, Bool, true, false, cond, leb, length, take, Some, None, Ok, Err, Option, refl, ap, ◌∙◌, arith, le-leb, leb-true}
-use borrow.Rule.Slice.PartMut.{put_mid}
+use Rattle.std.proofs.Common.{◌≡◌, ℕ, ◌<◌, ◌≤◌, Bool, true, false, cond, leb, length, Some, None, Ok, Err, Option, refl, arith, le-leb, leb-true}
 use Rattle.std.proofs.lemmas.Bool.{and_from, and_parts, cond-true}
-use Rattle.std.proofs.lemmas.List.{take_at}
 use Rattle.event.specs.Bytes.{Bytes}
 use Rattle.event.specs.declared.refusal.Refusal.TheVariants.{MessageBufferShort}
-use Rattle.carrier.specs.Carriers.{Message, Line, kept, message_to, linked, message_fits, takes, after_put, count_of, fetched, copied, fetched_into, lying_fits}
+use Rattle.carrier.specs.Carriers.{Message, Line, message_to, linked, message_fits, takes, after_put, count_of, fetched, lying_fits}
 
 -- a message of 1 to 4,224 bytes fits
 pub fits : (bytes : Bytes) → 0 < length bytes → length bytes ≤ 4224 → message_fits bytes ≡ true
@@ -21,13 +19,6 @@ fits_length bytes e =
 pub put_taken : (line : Line) (destination : ℕ) (bytes : Bytes) → takes line bytes ≡ true → after_put line destination bytes ≡ linked line.link (Some (message_to destination bytes))
 put_taken line destination bytes e = cond-true (takes line bytes) (linked line.link (Some (message_to destination bytes))) line e
 
--- a fetch with room enough
-pub fetched_room : (line : Line) (room : ℕ) → 4224 ≤ room → fetched line room ≡ count_of line.message
-fetched_room line room h = rw (le-leb 4224 room h)
-
-pub fetched_into_room : (line : Line) (buffer : Bytes) → 4224 ≤ length buffer → fetched_into line buffer ≡ copied line.message buffer
-fetched_into_room line buffer h = rw (le-leb 4224 (length buffer) h)
-
 -- what is counted lies there, and there was room for it
 counted : (roomy : Bool) (lying : Option Message) (n : ℕ) → lying_fits lying ≡ true → cond roomy (count_of lying) (Err MessageBufferShort) ≡ Ok n → (roomy ≡ true) × (0 < n) × (n ≤ 4224)
 counted false lying n f e = let z : ◌≡◌ {A = ℕ} 0 1 = cc in absurd (omega arith)
@@ -37,14 +28,3 @@ counted true (Some m) n f e = let l : length m.bytes ≡ n = cc in let h = fits_
 -- a fetch that counts bytes had room for them: 1 to 4,224, in a buffer of at least so many
 pub fetched-length : (line : Line) (room n : ℕ) → lying_fits line.message ≡ true → fetched line room ≡ Ok n → (0 < n) × (n ≤ 4224) × (4224 ≤ room)
 fetched-length line room n f e = let h = counted (leb 4224 room) line.message n f e in (h.1, h.2, leb-true 4224 room h.0)
-
--- a row that keeps bytes keeps a message
-pub kept-some : (destination n : ℕ) (row : Bytes) → 0 < n → kept destination n row ≡ Some (message_to destination (take n row))
-kept-some destination zero row h = absurd (omega arith)
-kept-some destination (suc n) row h = refl
-
--- the row after a message was copied to its start
-pub kept_copy : (destination : ℕ) (row ys bytes : Bytes) → 0 < length bytes → ys ≡ bytes → kept destination (length bytes) (put_mid 0 (length bytes - 0) row ys) ≡ Some (message_to destination bytes)
-kept_copy destination row ys bytes h e =
-    kept-some destination (length bytes) (put_mid 0 (length bytes - 0) row ys) h
-    ∙ ap (λ (b : Bytes). Some (message_to destination b)) (take_at ys _ (length bytes) (ap length e) ∙ e)

@@ -1,5 +1,5 @@
 -- What a carrier means: a link, and at most one message on it. Assumes nothing.
-use Rattle.std.specs.Prelude.{ℕ, zero, suc, Bool, true, false, cond, ◌&&◌, length, take, Some, None, Ok, Err, Option, Result, nat_le}
+use Rattle.std.specs.Prelude.{ℕ, Bool, true, false, cond, ◌&&◌, [], ◌∷◌, length, Some, None, Ok, Err, Option, Result, nat_le}
 use Rattle.event.specs.Bytes.{Bytes, placed, within}
 use Rattle.event.specs.declared.refusal.Refusal.{Refusal}
 use Rattle.event.specs.declared.refusal.Refusal.TheVariants.{MessageBufferShort, NoMessage}
@@ -75,7 +75,7 @@ copied (Some m) buffer = placed buffer 0 m.bytes
 abbrev pub fetched_into : Line → Bytes → Bytes
 fetched_into line buffer = cond (nat_le 4224 (length buffer)) (copied line.message buffer) buffer
 
--- a message that is kept whole, in the first bytes of a row; nothing lies there when it has none
-abbrev pub kept : (destination count : ℕ) → Bytes → Option Message
-kept destination zero row = None
-kept destination (suc n) row = Some (message_to destination (take (suc n) row))
+-- a message that is kept whole; without a byte nothing lies there
+abbrev pub kept : (destination : ℕ) → Bytes → Option Message
+kept destination [] = None
+kept destination (b ∷ bs) = Some (message_to destination (b ∷ bs))

@@ -19,6 +19,7 @@ pub trait Carrier {
 
     /// Lays a message on the link in the place of what lies there, and says whether it was taken: the link is up, and
     /// the message has 1 to 4,224 bytes. Else nothing changes.
+    // Two parameters, since the two come from different places: one from the state of an end, one from a buffer.
     fn put(&mut self, destination: u8, message: &[u8]) -> bool
         ensures taken { result ≡ takes (carried self.old) message.now }
         ensures after { carried self.new ≡ after_put (carried self.old) destination message.now };
@@ -29,7 +30,10 @@ pub trait Carrier {
 
     /// What lies there is lost on its way.
     fn lose(&mut self)
-        ensures { carried self.new ≡ withdrawn (carried self.old) };
+        ensures { carried self.new ≡ withdrawn (carried self.old) }
+    {
+        self.withdraw();
+    }
 
     /// The link comes up.
     fn link_up(&mut self)
@@ -53,8 +57,7 @@ pub trait Carrier {
 pub fn fits(message: &[u8]) -> bool
     ensures { result ≡ message_fits message.now }
 {
-    let len = message.len();
-    len >= 1 && len <= 4224
+    (1..=4224).contains(&message.len())
 }
 
 /// Puts a message and fetches what lies there then, which is that message if the put was taken.

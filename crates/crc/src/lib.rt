@@ -12,14 +12,9 @@ use tables::{crc8_entry, crc32c_entry};
 pub fn crc32c(bytes: &[u8]) -> u32
     ensures { result ≡ crc32c_of bytes.now }
 {
-    let mut register = 0xFFFF_FFFFu32;
     let (eights, tail) = bytes.as_chunks::<8>();
-    for eight in eights {
-        register = eight_step(register, eight);
-    }
-    for byte in tail {
-        register = byte_step(register, *byte);
-    }
+    let register = eights.iter().fold(0xFFFF_FFFF, eight_step);
+    let register = tail.iter().copied().fold(register, byte_step);
     register ^ 0xFFFF_FFFF
 }
 
@@ -27,11 +22,9 @@ pub fn crc32c(bytes: &[u8]) -> u32
 pub fn crc8(bytes: &[u8]) -> u8
     ensures { result ≡ crc8_of bytes.now }
 {
-    let mut register = 0u8;
-    for byte in bytes {
-        register = crc8_entry(register ^ *byte);
-    }
-    register
+    bytes
+        .iter()
+        .fold(0, |register, byte| crc8_entry(register ^ *byte))
 }
 
 /// One byte into the register of CRC-32C.

@@ -1,7 +1,8 @@
 -- The sources of a board, a place at a time. Assumes nothing.
-use Rattle.std.proofs.Common.{◌≡◌, ℕ, zero, suc, ◌+◌, ◌≤◌, Bool, true, false, cond, ◌||◌, eqb, ◌⊎◌, List, [], ◌∷◌, length, take, drop, Some, None, sym, refl, ap, ◌∙◌, inl, inr, add-one, arith}
+use Rattle.std.proofs.Common.{◌≡◌, ℕ, zero, suc, ◌+◌, Bool, true, false, cond, ◌||◌, eqb, ◌⊎◌, List, [], ◌∷◌, length, take, drop, Some, None, sym, refl, ap, ◌∙◌, inl, inr, add-one, arith}
+use Rattle.std.specs.List.{cons_option, filter_map, list_any, range_with_len}
 use mathlib.Core.Path.{fun_ext}
-use Rattle.std.proofs.lemmas.List.{drop_all, take_all}
+use Rattle.std.proofs.lemmas.List.{drop_all}
 use Rattle.std.proofs.lemmas.Bool.{eq-eqb, ne_eqb}
 use Rattle.std.proofs.lemmas.Bool.Decides.{eqb_tells}
 use Rattle.event.specs.declared.id.UniqueId.{UniqueId}
@@ -9,6 +10,7 @@ use Rattle.event.specs.Bytes.{Bytes}
 use Rattle.event.specs.Identifiers.{Words, has, switched}
 use Rattle.event.specs.Sources.{Occurrence}
 use Rattle.board.specs.Boards.{Sources, ids, at, reading_of}
+use Rattle.board.proofs.Rereads.{at-below, at_source}
 use Rattle.marks.specs.Marking.{Marking, unmarked, update}
 use Rattle.marks.proofs.Listing.{at_drop}
 use Rattle.protocol.specs.Endpoint.{known, present_of, present, enabling}
@@ -16,25 +18,8 @@ use Rattle.wire.specs.declared.types.Item.{Item}
 
 -- WHAT IS LEFT AT A PLACE
 
-pub drop_more : {A : Type 0} (us : List A) (i : ℕ) (u : A) → at us i ≡ Some u → drop i us ≡ u ∷ drop (i + 1) us
+drop_more : {A : Type 0} (us : List A) (i : ℕ) (u : A) → at us i ≡ Some u → drop i us ≡ u ∷ drop (i + 1) us
 drop_more us i u e = at_drop us i u e ∙ ap (λ j. u ∷ drop j us) (sym (add-one i))
-
-past : {A : Type 0} (us : List A) (i : ℕ) → at us i ≡ None → drop i us ≡ drop (suc i) us
-unfolding at
-past [] zero e = refl
-past [] (suc i) e = refl
-past (v ∷ us) zero e = cc
-past (v ∷ us) (suc i) e = past us i e
-
-pub drop_past : {A : Type 0} (us : List A) (i : ℕ) → at us i ≡ None → drop i us ≡ drop (i + 1) us
-drop_past us i e = past us i e ∙ ap (λ j. drop j us) (sym (add-one i))
-
--- the ID at a place is its source's
-pub at-ids : (ss : Sources) (i : ℕ) (u : UniqueId) → at (ids ss) i ≡ Some u → (s : Occurrence) × (at ss i ≡ Some s) × (s.id ≡ u)
-unfolding at
-at-ids [] i u e = let never : ◌≡◌ {A = ℕ} 0 1 = cc in absurd (omega arith)
-at-ids (s ∷ ss) zero u e = (s, refl, cc)
-at-ids (s ∷ ss) (suc i) u e = at-ids ss i u e
 
 -- THE FIRST SOURCES, ONE MORE AT A TIME
 
@@ -68,9 +53,6 @@ pub none_yet : (words : Words) (told : Sources) → unmarked ≡ Among words tol
 unfolding unmarked at present
 none_yet words told = refl
 
-pub all_among : (words : Words) (told : Sources) (i : ℕ) → length told ≤ i → Among words told i ≡ present words told
-all_among words told i h = ap (present words) (take_all i told h)
-
 module _ (words : Words) (told : Sources) (i : ℕ) where
   -- a mark at the place i, if the source there is enabled
   one_more : (n : Marking) → ((q : ℕ) → (q ≡ i → ⊥) → n q ≡ Among words told i q) → n i ≡ present_of words (at told i) → n ≡ Among words told (i + 1)
@@ -101,7 +83,7 @@ module _ (words : Words) (told : Sources) (i : ℕ) where
       → Some u ≡ at (ids told) i → true ≡ has words u.identifier → Some r ≡ reading_of (at told i)
       → m ≡ Among words told i → n ≡ update m i (Some r) → n ≡ Among words told (i + 1)
   shot_marked u r m n e on f inv set =
-      let p = at-ids told i u (sym e) in
+      let p = at_source told i u (sym e) in
       let is : r ≡ p.0.reading = same_reading r p.0 (f ∙ ap reading_of p.1) in
       set ∙ (λ j. update (inv j) i (Some (is j))) ∙ more p.0 p.1 (ap (λ (v : UniqueId). has words v.identifier) p.2 ∙ sym on)
     where
@@ -109,14 +91,14 @@ module _ (words : Words) (told : Sources) (i : ℕ) where
       same_reading r s e = cc
 
   pub shot_never : (u : UniqueId) → Some u ≡ at (ids told) i → None ≡ reading_of (at told i) → ⊥
-  shot_never u e f = let p = at-ids told i u (sym e) in never p.0.reading (f ∙ ap reading_of p.1)
+  shot_never u e f = let p = at_source told i u (sym e) in never p.0.reading (f ∙ ap reading_of p.1)
     where
       never : (r : Bytes) → None ≡ Some r → ⊥
       never r e = let z : ◌≡◌ {A = ℕ} 0 1 = cc in omega arith
 
   pub shot_off : (u : UniqueId) → Some u ≡ at (ids told) i → false ≡ has words u.identifier → Among words told i ≡ Among words told (i + 1)
   shot_off u e off =
-      let p = at-ids told i u (sym e) in
+      let p = at_source told i u (sym e) in
       same (ap (present_of words) p.1 ∙ ap (λ (b : Bool). cond b (Some p.0.reading) None) (ap (λ (v : UniqueId). has words v.identifier) p.2 ∙ sym off))
 
   pub shot_past : None ≡ at (ids told) i → Among words told i ≡ Among words told (i + 1)
@@ -130,18 +112,24 @@ module _ (words : Words) (told : Sources) (i : ℕ) where
 
 -- WHETHER AN IDENTIFIER IS KNOWN
 
--- the source at the place i tells, or those behind it
-pub known_more : (us : List UniqueId) (i identifier : ℕ) (u : UniqueId) (b : Bool) → Some u ≡ at us i → eqb identifier u.identifier ≡ b
-    → known identifier (drop i us) ≡ (b || known identifier (drop (i + 1) us))
-unfolding known
-known_more us i identifier u b e is = ap (known identifier) (drop_more us i u (sym e)) ∙ ap (λ (v : Bool). v || known identifier (drop (i + 1) us)) is
+-- what stands at the places from i on is what is left there
+places : {A : Type 0} (us : List A) (i n : ℕ) → i + n ≡ length us → filter_map (at us) (range_with_len i n) ≡ drop i us
+places us i zero h = sym (drop_all i us (omega arith))
+places us i (suc n) h =
+    let p = at-below us i (omega arith) in
+    ap (λ o. cons_option o (filter_map (at us) (range_with_len (i + 1) n))) p.1
+    ∙ ap (λ vs. p.0 ∷ vs) (places us (i + 1) n (omega arith))
+    ∙ sym (drop_more us i p.0 p.1)
 
-pub known_past : (us : List UniqueId) (i identifier : ℕ) → None ≡ at us i → known identifier (drop i us) ≡ known identifier (drop (i + 1) us)
-known_past us i identifier e = ap (known identifier) (drop_past us i (sym e))
-
-pub known_end : (us : List UniqueId) (i identifier : ℕ) → length us ≤ i → false ≡ known identifier (drop i us)
+known_any : (identifier : ℕ) (us : List UniqueId) → list_any (λ u. eqb identifier u.identifier) us ≡ known identifier us
 unfolding known
-known_end us i identifier h = sym (ap (known identifier) (drop_all i us h))
+known_any identifier [] = refl
+known_any identifier (u ∷ us) = ap (λ b. eqb identifier u.identifier || b) (known_any identifier us)
+
+-- one of all the places has the identifier, if it is known
+pub known_places : (identifier : ℕ) (us : List UniqueId) (n : ℕ) → n ≡ length us
+    → list_any (λ u. eqb identifier u.identifier) (filter_map (at us) (range_with_len 0 n)) ≡ known identifier us
+known_places identifier us n e = ap (list_any (λ u. eqb identifier u.identifier)) (places us 0 n (omega (arith, e))) ∙ known_any identifier us
 
 -- ITEMS
 

@@ -16,14 +16,9 @@ use wire::types::Items;
 pub fn is_known<B: Board>(board: &B, identifier: u8) -> bool
     ensures { result ≡ known identifier (ids (B.Board.told board.now)) }
 {
-    for place in 0..board.count() {
-        if let Some(id) = board.id(place) {
-            if identifier == id.identifier {
-                return true;
-            }
-        }
-    }
-    false
+    (0..board.count())
+        .filter_map(|place| board.id(place))
+        .any(|id| identifier == id.identifier)
 }
 
 /// The enabled identifiers after the items, in their order. An item whose identifier no source has is ignored.
@@ -31,9 +26,9 @@ pub fn switch<B: Board>(board: &B, set: [u64; 4], items: Items<'_>) -> [u64; 4]
     ensures { result ≡ enabling (ids (B.Board.told board.now)) (left items.entry) set }
 {
     let mut words = set;
-    let mut rest = items;
-    while let Some(item) = rest.next() {
+    for item in items {
         if is_known(board, item.identifier) {
+            // By way of `next`: what a call hands back is not proved to reach a variable that is an array.
             let next = with(words, item.identifier, item.on);
             words = next;
         }
@@ -47,12 +42,11 @@ pub fn snapshot<B: Board>(board: &B, set: [u64; 4]) -> Marks
 {
     let mut marks = Marks::none();
     for place in 0..board.count() {
-        if let Some(id) = board.id(place) {
-            if has(set, id.identifier) {
-                if let Some(reading) = board.reading(place) {
-                    let _ = marks.mark(place, reading);
-                }
-            }
+        if let Some(id) = board.id(place)
+            && has(set, id.identifier)
+            && let Some(reading) = board.reading(place)
+        {
+            let _ = marks.mark(place, reading);
         }
     }
     marks

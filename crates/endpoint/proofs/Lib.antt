@@ -1,3 +1,2 @@
 mod Changes
-mod Attempts
 mod Asked

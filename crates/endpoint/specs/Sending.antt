@@ -1,9 +1,13 @@
 -- An attempt to send a message. Assumes nothing.
-use Rattle.std.specs.Prelude.{length}
-use Rattle.event.specs.Bytes.{Bytes}
+use Rattle.std.specs.Prelude.{ℕ, cond, not, ◌&&◌, ◌==◌, List}
+use Rattle.event.specs.declared.id.UniqueId.{UniqueId}
+use Rattle.event.specs.Delays.{tenths_in_ticks}
 use Rattle.carrier.specs.Carriers.{Line, takes}
-use Rattle.endpoint.specs.declared.types.Sent.{Sent}
+use Rattle.protocol.specs.Endpoint.{Endpoint, Turn, message_of, send, fail}
 
--- what an attempt tells: how long the message is, and whether the carrier takes it
-abbrev pub sending : Line → Bytes → Sent
-sending line bytes = record { count = length bytes; taken = takes line bytes }
+-- an attempt with a retry count; failure if its put is not taken and none would follow
+abbrev pub attempted : List UniqueId → (retries : ℕ) → Line → Endpoint → Turn
+attempted sources retries line e =
+    cond (not (takes line (message_of sources retries e)) && tenths_in_ticks e.retry == 0)
+    (fail (message_of sources retries e) line e)
+    (send sources retries line e)

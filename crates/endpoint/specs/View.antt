@@ -11,7 +11,7 @@ use Rattle.endpoint.specs.declared.types.Endpoint.{Endpoint as Kept}
 
 -- the endpoint of the definitions that the code's stands for
 abbrev pub as_endpoint : Kept → Endpoint
-as_endpoint e = endpoint_of e.state e.enabled e.delay.0 e.retry.0 (marks_of e.prior) (marks_of e.since) e.generation e.destination e.failure
+as_endpoint e = endpoint_of e.state e.enabled e.delays.first.0 e.delays.retry.0 (marks_of e.prior) (marks_of e.since) e.generation e.destination e.failure
 
 -- a call left the endpoint and its carrier as the turn says
 pub record Left (t : Turn) (after : Endpoint) (line : Line) : Type 0 where

@@ -11,8 +11,7 @@ use board::Board;
 use carrier::Carrier;
 use event::enabled::any;
 use event::refusal::Refusal;
-use marks::types::Marks;
-use marks::write::overflows;
+use marks::types::{Marked, Marks};
 use protocol::types::State;
 use wire::message::write_answer;
 
@@ -32,11 +31,14 @@ impl Endpoint {
         match self.state {
             State::Off | State::Armed { .. } => {
                 self.address(sender);
-                write_answer(buffer, slot, board, &Marks::none())
+                let marks = &Marks::none();
+                write_answer(buffer, slot, &Marked { board, marks })
             }
             State::Sending { .. } | State::Failed => {
-                let answer = write_answer(buffer, slot, board, &self.since);
-                if !overflows(board, &self.since) {
+                let marks = &self.since;
+                let marked = Marked { board, marks };
+                let answer = write_answer(buffer, slot, &marked);
+                if !marked.overflows() {
                     self.rearm(sender);
                     carrier.withdraw();
                 }

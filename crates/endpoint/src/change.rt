@@ -6,6 +6,7 @@ ghost use Rattle.endpoint.specs.View.{as_endpoint, Changed};
 
 use crate::types::Endpoint;
 use board::Board;
+use board::change::try_set;
 use event::enabled::has;
 use event::reading::Reading;
 use event::refusal::Refusal;
@@ -22,15 +23,9 @@ impl Endpoint {
     ) -> Result<usize, Refusal>
         ensures { Changed (B.Board.told board.old) place reading.now (as_endpoint self.old) (as_endpoint self.new) (B.Board.told board.new) result }
     {
-        let Some(id) = board.id(place) else {
-            return Err(Refusal::NoSuchPlace);
-        };
-        let Some(kept) = Reading::new(reading) else {
-            return Err(Refusal::UnlawfulReading);
-        };
-        if !board.set(place, reading) {
-            return Err(Refusal::UnlawfulReading);
-        }
+        let id = board.id(place).ok_or(Refusal::NoSuchPlace)?;
+        let kept = Reading::new(reading).ok_or(Refusal::UnlawfulReading)?;
+        try_set(board, place, reading)?;
         if has(self.enabled, id.identifier) {
             self.mark(place, kept);
         }

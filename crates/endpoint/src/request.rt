@@ -49,10 +49,9 @@ impl Endpoint {
         match read_request(message)? {
             Message::Sync {
                 slot,
-                delay,
-                retry,
+                delays,
                 items,
-            } => self.sync(board, carrier, sender, slot, delay, retry, items, buffer),
+            } => self.sync(board, carrier, sender, slot, delays, items, buffer),
             Message::Ack { slot, .. } => self.ack(board, carrier, sender, slot, buffer),
             // The reader of requests hands back no other message.
             Message::Event { .. } | Message::Answer { .. } => Err(Refusal::RequestKind),

@@ -7,7 +7,7 @@ ghost use Rattle.endpoint.specs.View.{as_endpoint, Left};
 
 use crate::types::{Endpoint, Event};
 use carrier::Carrier;
-use event::delay::{Seconds, Tenths};
+use event::delay::{Delays, Seconds, Tenths};
 use event::enabled::NOTHING;
 use marks::types::Marks;
 use protocol::types::State;
@@ -21,8 +21,10 @@ impl Endpoint {
         Endpoint {
             state: State::Off,
             enabled: NOTHING,
-            delay: Seconds(0),
-            retry: Tenths(0),
+            delays: Delays {
+                first: Seconds(0),
+                retry: Tenths(0),
+            },
             prior: Marks::none(),
             since: Marks::none(),
             generation: 0,

@@ -15,7 +15,7 @@ impl Endpoint {
     {
         match (&mut self.state, event) {
             (State::Armed { age }, Event::Tick { full, marked, .. }) => {
-                let older = if *age < full { *age + 1 } else { full };
+                let older = age.saturating_add(1).min(full);
                 if older == full && marked {
                     self.state = State::Sending {
                         attempt: 1,

@@ -9,10 +9,10 @@ use crate::types::Endpoint;
 use board::Board;
 use carrier::Carrier;
 use enabling::{snapshot, switch};
-use event::delay::{Seconds, Tenths};
+use event::delay::Delays;
 use event::enabled::any;
 use event::refusal::Refusal;
-use marks::write::overflows;
+use marks::types::Marked;
 use protocol::types::State;
 use wire::message::write_answer;
 use wire::types::Items;
@@ -25,30 +25,29 @@ impl Endpoint {
         carrier: &mut C,
         sender: u8,
         slot: bool,
-        delay: Seconds,
-        retry: Tenths,
+        delays: Delays,
         items: Items<'_>,
         buffer: &mut [u8],
     ) -> Result<usize, Refusal>
         requires { 4115 ≤ length buffer.old }
-        ensures { Turned (handle sender (Sync slot (left items.entry) delay.0 retry.0) (B.Board.told board.now) (C.Carrier.carried carrier.old) (as_endpoint self.old)) (as_endpoint self.new) (C.Carrier.carried carrier.new) buffer.old buffer.new result }
+        ensures { Turned (handle sender (Sync slot (left items.entry) delays.first.0 delays.retry.0) (B.Board.told board.now) (C.Carrier.carried carrier.old) (as_endpoint self.old)) (as_endpoint self.new) (C.Carrier.carried carrier.new) buffer.old buffer.new result }
     {
         let enabled = switch(board, self.enabled, items);
-        let present = snapshot(board, enabled);
-        if !overflows(board, &present) {
-            self.settle(enabled, delay, retry, sender);
+        let marks = &snapshot(board, enabled);
+        let marked = Marked { board, marks };
+        if !marked.overflows() {
+            self.settle(enabled, delays, sender);
             carrier.withdraw();
         }
-        write_answer(buffer, slot, board, &present)
+        write_answer(buffer, slot, &marked)
     }
 
     // A sync is accepted: its enables and delays are stored, and the marks and the failure bit go.
-    fn settle(&mut self, enabled: [u64; 4], delay: Seconds, retry: Tenths, sender: u8)
-        ensures { as_endpoint self.new ≡ synced sender enabled delay.0 retry.0 (as_endpoint self.old) }
+    fn settle(&mut self, enabled: [u64; 4], delays: Delays, sender: u8)
+        ensures { as_endpoint self.new ≡ synced sender enabled delays.first.0 delays.retry.0 (as_endpoint self.old) }
     {
         self.enabled = enabled;
-        self.delay = delay;
-        self.retry = retry;
+        self.delays = delays;
         self.failure = false;
         self.unmark();
         if any(enabled) {

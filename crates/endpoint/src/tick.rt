@@ -1,17 +1,16 @@
 //! Ticks: the endpoint sends what is marked, and sends it again until it is acknowledged.
-ghost use Rattle.std.specs.Prelude.{◌≡◌, ◌<◌, ◌≤◌, [], length, Ok};
-ghost use Rattle.event.specs.Outcomes.{over_front};
+ghost use Rattle.std.specs.Prelude.{◌≡◌, ◌<◌, ◌≤◌, [], length};
 ghost use Rattle.board.specs.Boards.{ids};
-ghost use Rattle.carrier.specs.Carriers.{after_put};
 ghost use Rattle.protocol.specs.declared.types.State.TheVariants.{Sending};
-ghost use Rattle.protocol.specs.Endpoint.{message_of, start as starting, tick as ticking, fail as failing};
+ghost use Rattle.protocol.specs.Endpoint.{start as starting, tick as ticking, fail as failing};
 ghost use Rattle.endpoint.specs.View.{as_endpoint, Left, Turned};
-ghost use Rattle.endpoint.specs.Sending.{sending};
+ghost use Rattle.endpoint.specs.Sending.{attempted};
 
-use crate::types::{Endpoint, Event, Move, Sent};
+use crate::types::{Endpoint, Event, Move};
 use board::Board;
 use carrier::Carrier;
 use event::refusal::Refusal;
+use marks::types::Marked;
 use protocol::types::State;
 use wire::message::write_event;
 
@@ -28,15 +27,16 @@ impl Endpoint {
         if buffer.len() < 4111 {
             return Err(Refusal::TickBufferShort);
         }
+        let marks = &self.prior;
         let event = Event::Tick {
-            full: self.delay.ticks(),
-            retry: self.retry.ticks(),
-            marked: self.prior.number(board) != 0,
+            full: self.delays.first.ticks(),
+            retry: self.delays.retry.ticks(),
+            marked: !Marked { board, marks }.is_empty(),
         };
         match self.step(event) {
             Move::Rest => Ok(0),
             Move::Start => self.start(board, carrier, buffer),
-            Move::Again { retries } => Ok(self.send(retries, board, carrier, buffer)?.count),
+            Move::Again { retries } => self.send(retries, board, carrier, buffer),
             Move::Fail => {
                 self.fail(carrier);
                 Ok(0)
@@ -55,29 +55,29 @@ impl Endpoint {
         ensures { Turned (starting (ids (B.Board.told board.now)) (C.Carrier.carried carrier.old) (as_endpoint self.old)) (as_endpoint self.new) (C.Carrier.carried carrier.new) buffer.old buffer.new result }
     {
         self.generation = (self.generation + 1) % 32;
-        let sent = self.send(0, board, carrier, buffer)?;
-        if !sent.taken && self.retry.ticks() == 0 {
-            self.fail(carrier);
-        }
-        Ok(sent.count)
+        self.send(0, board, carrier, buffer)
     }
 
-    // One attempt, with its retry count.
+    // One attempt, with its retry count. Where the carrier does not take it and no other would follow, the attempts have
+    // failed.
     fn send<B: Board, C: Carrier>(
-        &self,
+        &mut self,
         retries: u8,
         board: &B,
         carrier: &mut C,
         buffer: &mut [u8],
-    ) -> Result<Sent, Refusal>
+    ) -> Result<usize, Refusal>
         requires { (4111 ≤ length buffer.old) × (retries < 8) }
-        ensures sent { result ≡ Ok (sending (C.Carrier.carried carrier.old) (message_of (ids (B.Board.told board.now)) retries (as_endpoint self.now))) }
-        ensures line { C.Carrier.carried carrier.new ≡ after_put (C.Carrier.carried carrier.old) self.now.destination (message_of (ids (B.Board.told board.now)) retries (as_endpoint self.now)) }
-        ensures wrote { buffer.new ≡ over_front (message_of (ids (B.Board.told board.now)) retries (as_endpoint self.now)) buffer.old }
+        ensures { Turned (attempted (ids (B.Board.told board.now)) retries (C.Carrier.carried carrier.old) (as_endpoint self.old)) (as_endpoint self.new) (C.Carrier.carried carrier.new) buffer.old buffer.new result }
     {
-        let count = write_event(buffer, self.generation * 8 + retries, board, &self.prior)?;
-        let taken = carrier.put(self.destination, &buffer[0..count]);
-        Ok(Sent { count, taken })
+        let marks = &self.prior;
+        let transmission = self.generation * 8 + retries;
+        let count = write_event(buffer, transmission, &Marked { board, marks })?;
+        let taken = carrier.put(self.destination, &buffer[..count]);
+        if !taken && self.delays.retry.ticks() == 0 {
+            self.fail(carrier);
+        }
+        Ok(count)
     }
 
     // The attempts have failed: the message is withdrawn, and the marks are kept.

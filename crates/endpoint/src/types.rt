@@ -1,20 +1,21 @@
 //! The endpoint, what happens to its state, and what it does then.
 ghost use Rattle.std.specs.Prelude.{◌<◌};
 
-use event::delay::{Seconds, Tenths};
+use event::delay::Delays;
 use marks::types::Marks;
 use protocol::types::State;
 
 /// The drive's end. Its board and its carrier are lent to it at each call.
+// It has no model: in the definitions marks are a function of the place, and a model's value cannot hold a function.
+// Board, carrier and buffer are three parameters: a struct of them has to be taken apart in each function, and contracts
+// call what it leaves `lent.exit.1.0.now` where they say `carrier.new`.
 #[derive(Drop)]
 pub struct Endpoint {
     pub(crate) state: State,
     // The identifiers of the enabled events.
     pub(crate) enabled: [u64; 4],
-    // Before the first attempt of a message.
-    pub(crate) delay: Seconds,
-    // Before each further attempt.
-    pub(crate) retry: Tenths,
+    // Before the first attempt of a message, and before each further one.
+    pub(crate) delays: Delays,
     // The marks of the present message, or of the next one.
     pub(crate) prior: Marks,
     // The marks of changes since the present message was first sent.
@@ -37,7 +38,7 @@ pub(crate) enum Event {
     Reset,
 }
 
-// What the endpoint does after an event.
+// What the endpoint does after an event. Data, and not a closure, so that a contract can say which it is.
 #[derive(Clone, Copy)]
 pub(crate) enum Move {
     // Nothing more.
@@ -48,11 +49,4 @@ pub(crate) enum Move {
     Again { retries: u8 },
     // The attempts have failed.
     Fail,
-}
-
-// An attempt: how long the message is, and whether the carrier took it.
-#[derive(Clone, Copy)]
-pub(crate) struct Sent {
-    pub(crate) count: usize,
-    pub(crate) taken: bool,
 }

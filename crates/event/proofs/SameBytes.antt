@@ -1,12 +1,7 @@
 -- The test whether two strings of bytes are the same. Assumes nothing.
 use Rattle.std.proofs.Common.{◌≡◌, Bool, true, false, eqb, [], ◌∷◌, length, sym, refl, ap, ◌∙◌}
-use Rattle.std.proofs.lemmas.Bool.{false≢true, eqb-true, eq-eqb, and_parts, and_from}
+use Rattle.std.proofs.lemmas.Bool.{false≢true, eqb-true, eq-eqb, false_from_ne_true, and_parts, and_from}
 use Rattle.event.specs.Bytes.{Bytes, same_bytes}
-
--- what is not true is false
-not-true : (t : Bool) → (t ≡ true → ⊥) → t ≡ false
-not-true true ne = absurd (ne refl)
-not-true false ne = refl
 
 -- the same bytes are the same
 pub same_refl : (s : Bytes) → same_bytes s s ≡ true
@@ -30,9 +25,9 @@ same_from a b e = ap (same_bytes a) (sym e) ∙ same_refl a
 
 -- strings of unlike lengths differ
 pub same_length : (a b : Bytes) → (length a ≡ length b → ⊥) → same_bytes a b ≡ false
-same_length a b ne = not-true (same_bytes a b) (λ e. ne (ap length (same_is a b e)))
+same_length a b ne = false_from_ne_true (same_bytes a b) (λ e. ne (ap length (same_is a b e)))
 
 -- a test for equality is this one
 pub same_decides : (r : Bool) (a b : Bytes) → (r ≡ true → a ≡ b) → (a ≡ b → r ≡ true) → r ≡ same_bytes a b
 same_decides true a b is to = sym (same_from a b (is refl))
-same_decides false a b is to = sym (not-true (same_bytes a b) (λ e. false≢true (to (same_is a b e))))
+same_decides false a b is to = sym (false_from_ne_true (same_bytes a b) (λ e. false≢true (to (same_is a b e))))

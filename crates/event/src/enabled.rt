@@ -1,4 +1,4 @@
-//! The set of enabled identifiers: 256 bits in four words, handed on by value.
+//! The set of enabled identifiers: 256 bits in four words, handed on by value as the definitions have them.
 ghost use Rattle.std.specs.Prelude.{◌≡◌};
 ghost use Rattle.event.specs.Identifiers.{has as is_in, switched, any as any_in, Switches};
 
@@ -9,7 +9,7 @@ pub const NOTHING: [u64; 4] = [0; 4];
 pub fn has(set: [u64; 4], identifier: u8) -> bool
     ensures { result ≡ is_in set identifier }
 {
-    let word = set[(identifier / 64) as usize];
+    let word = set[usize::from(identifier / 64)];
     (word >> (identifier % 64)) % 2 == 1
 }
 
@@ -19,7 +19,7 @@ pub fn with(set: [u64; 4], identifier: u8, on: bool) -> [u64; 4]
     ensures others { Switches on identifier set result }
 {
     let mut words = set;
-    let place = (identifier / 64) as usize;
+    let place = usize::from(identifier / 64);
     let bit = 1u64 << (identifier % 64);
     if on {
         words[place] |= bit;
@@ -33,10 +33,5 @@ pub fn with(set: [u64; 4], identifier: u8, on: bool) -> [u64; 4]
 pub fn any(set: [u64; 4]) -> bool
     ensures { result ≡ any_in set }
 {
-    for word in set {
-        if word != 0 {
-            return true;
-        }
-    }
-    false
+    set != NOTHING
 }

@@ -3,7 +3,8 @@ ghost use Rattle.std.specs.Prelude.{◌≡◌};
 ghost use Rattle.event.specs.Sources.{one_byte, lawful_scope, lawful_info, lawful_id, reading_fits, lawful_reading};
 
 /// The unique ID of a source.
-#[derive(Clone, Copy, PartialEq, Eq, Debug)]
+// The first two are bytes, and not enums, since IDs that are not lawful have to be held too, and asked about.
+#[derive(Clone, Copy, PartialEq, Eq, PartialOrd, Ord, Default, Debug)]
 pub struct UniqueId {
     /// Which event it is: 00h to 0Bh, or C0h to FFh for a vendor's.
     pub identifier: u8,
@@ -67,7 +68,7 @@ fn lawful_reading(identifier: u8, reading: &[u8]) -> bool
 fn lawful_info(identifier: u8, scope: u8, info: u32) -> bool
     ensures { result ≡ lawful_info identifier scope info }
 {
-    let pcie_port = info >= 0x1_0000 && info <= 0x1_00FF;
+    let pcie_port = (0x1_0000..=0x1_00FF).contains(&info);
     match scope {
         0 => true,
         1 | 5 => info <= 0xFFFF,
@@ -82,5 +83,5 @@ fn lawful_info(identifier: u8, scope: u8, info: u32) -> bool
 fn one_byte(reading: &[u8], most: u8) -> bool
     ensures { result ≡ one_byte most reading.now }
 {
-    reading.len() == 1 && reading[0] <= most
+    matches!(reading, [value] if *value <= most)
 }

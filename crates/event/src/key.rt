@@ -10,16 +10,11 @@ use std::cmp::Ordering;
 impl Key for UniqueId {
     ghost order = { λ u v. ordering_then (ordering_then (nat_cmp u.identifier v.identifier) (nat_cmp u.scope v.scope)) (nat_cmp u.info v.info) };
 
+    ghost ordered = { Prim.search rules };
+
     ghost same = { Prim.search rules };
 
-    ghost turned = { Prim.search rules };
-
-    ghost chain = { Prim.search rules };
-
     fn compare(&self, other: &UniqueId) -> Ordering {
-        let by_identifier = self.identifier.cmp(&other.identifier);
-        let by_scope = self.scope.cmp(&other.scope);
-        let by_info = self.info.cmp(&other.info);
-        by_identifier.then(by_scope).then(by_info)
+        self.cmp(other)
     }
 }

@@ -1,5 +1,5 @@
 //! Readings from bytes, and back.
-ghost use Rattle.std.specs.Prelude.{◌≡◌, ◌-◌, ◌≤◌, [], ◌++◌, length, replicate, if◌then◌else◌, Some, None, nat_le};
+ghost use Rattle.std.specs.Prelude.{◌≡◌, [], length, if◌then◌else◌, Some, None, nat_le};
 ghost use Rattle.event.specs.View.{held, held_if};
 
 use crate::reading::Reading;
@@ -16,15 +16,18 @@ impl Reading {
     }
 
     /// A reading of these bytes, unless there are more than 64.
+    // No `TryFrom`: most callers hand the option on as it is, and a `Result` would take an `ok()` there.
     pub fn new(bytes: &[u8]) -> Option<Reading>
         ensures { held_if result ≡ (if nat_le (length bytes.now) 64 then Some bytes.now else None) }
     {
         if bytes.len() > 64 {
             return None;
         }
+        let mut whole = [0; 64];
+        whole[..bytes.len()].copy_from_slice(bytes);
         Some(Reading {
             len: bytes.len() as u8,
-            bytes: padded(bytes),
+            bytes: whole,
         })
     }
 
@@ -32,16 +35,16 @@ impl Reading {
     pub fn as_bytes(&self) -> &[u8]
         ensures { result.now ≡ held self.now }
     {
-        &self.bytes[0..self.len as usize]
+        &self.bytes[..usize::from(self.len)]
     }
 }
 
-// The bytes, and zeros up to the 64th.
-fn padded(bytes: &[u8]) -> [u8; 64]
-    requires { length bytes.now ≤ 64 }
-    ensures { result ≡ bytes.now ++ replicate (64 - length bytes.now) 0 }
-{
-    let mut whole = [0; 64];
-    whole[0..bytes.len()].copy_from_slice(bytes);
-    whole
+/// The reading without a byte.
+// Written out, since a derive is refused over a ghost field.
+impl Default for Reading {
+    ghost is_default = { λ r. held r ≡ [] };
+
+    fn default() -> Reading {
+        Reading::empty()
+    }
 }

@@ -3,7 +3,7 @@ use crate::id::UniqueId;
 use crate::reading::Reading;
 
 /// An event that occurred: its source, and the reading at that time.
-#[derive(Clone, Copy)]
+#[derive(Clone, Copy, Default)]
 pub struct Occurrence {
     pub id: UniqueId,
     pub reading: Reading,

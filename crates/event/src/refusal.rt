@@ -6,65 +6,65 @@ ghost use Rattle.event.specs.Refusals.{number};
 #[derive(Clone, Copy, PartialEq, Eq, Debug, Drop)]
 pub enum Refusal {
     /// The answer buffer has less than 4,115 bytes.
-    AnswerBufferShort,
+    AnswerBufferShort = 1,
     /// The request is shorter than 25 bytes or longer than 4,224.
-    RequestLength,
+    RequestLength = 2,
     /// The request's first byte is not 84h.
-    RequestType,
+    RequestType = 3,
     /// The request's check word is wrong.
-    RequestCheck,
+    RequestCheck = 4,
     /// The message is no Configuration Set of asynchronous events.
-    RequestKind,
+    RequestKind = 5,
     /// Bits 1:0 of the request's byte 2 are not zero.
-    RequestFlags,
+    RequestFlags = 6,
     /// The enable list's header or total length does not fit.
-    EnableLengths,
+    EnableLengths = 7,
     /// The enable list's items take more than 4,096 bytes.
-    EnableBodyLong,
+    EnableBodyLong = 8,
     /// An item is shorter than 3 bytes, or passes the total length.
-    EnableItems,
+    EnableItems = 9,
     /// A tick's buffer has less than 4,111 bytes.
-    TickBufferShort,
+    TickBufferShort = 10,
     /// The board has no source at this place.
-    NoSuchPlace,
+    NoSuchPlace = 11,
     /// The source cannot have this reading.
-    UnlawfulReading,
+    UnlawfulReading = 12,
     /// A table board has 1 to 64 rows.
-    RowCount,
+    RowCount = 13,
     /// A row's unique ID or reading is unlawful.
-    UnlawfulRow,
+    UnlawfulRow = 14,
     /// A unique ID stands in two rows.
-    RowTwice,
+    RowTwice = 15,
     /// An SMBus address is 128 or more.
-    AddressTooHigh,
+    AddressTooHigh = 16,
     /// A request's buffer has less than 217 bytes.
-    RequestBufferShort,
+    RequestBufferShort = 17,
     /// The book still awaits an answer.
-    StillAwaiting,
+    StillAwaiting = 18,
     /// A sync has 1 to 64 items.
-    ItemCount,
+    ItemCount = 19,
     /// A sync names an identifier twice.
-    IdentifierTwice,
+    IdentifierTwice = 20,
     /// The book holds no message to acknowledge.
-    NotHolding,
+    NotHolding = 21,
     /// The book is blind.
-    BookBlind,
+    BookBlind = 22,
     /// A message's buffer has less than 4,224 bytes.
-    MessageBufferShort,
+    MessageBufferShort = 23,
     /// There is no message on the carrier.
-    NoMessage,
+    NoMessage = 24,
     /// The message is no lawful event message.
-    UnlawfulMessage,
+    UnlawfulMessage = 25,
     /// The message's generation is the one that the book has already.
-    SameGeneration,
+    SameGeneration = 26,
     /// No request of the receipt's kind is awaited.
-    NoneAwaited,
+    NoneAwaited = 27,
     /// The bytes are no lawful answer.
-    UnlawfulAnswer,
+    UnlawfulAnswer = 28,
     /// A reading's buffer has less than 64 bytes.
-    ReadingBufferShort,
+    ReadingBufferShort = 29,
     /// The book has no entry of this source.
-    UnknownSource,
+    UnknownSource = 30,
 }
 
 impl Refusal {
@@ -72,37 +72,6 @@ impl Refusal {
     pub fn number(self) -> u8
         ensures { result ≡ number self }
     {
-        match self {
-            Refusal::AnswerBufferShort => 1,
-            Refusal::RequestLength => 2,
-            Refusal::RequestType => 3,
-            Refusal::RequestCheck => 4,
-            Refusal::RequestKind => 5,
-            Refusal::RequestFlags => 6,
-            Refusal::EnableLengths => 7,
-            Refusal::EnableBodyLong => 8,
-            Refusal::EnableItems => 9,
-            Refusal::TickBufferShort => 10,
-            Refusal::NoSuchPlace => 11,
-            Refusal::UnlawfulReading => 12,
-            Refusal::RowCount => 13,
-            Refusal::UnlawfulRow => 14,
-            Refusal::RowTwice => 15,
-            Refusal::AddressTooHigh => 16,
-            Refusal::RequestBufferShort => 17,
-            Refusal::StillAwaiting => 18,
-            Refusal::ItemCount => 19,
-            Refusal::IdentifierTwice => 20,
-            Refusal::NotHolding => 21,
-            Refusal::BookBlind => 22,
-            Refusal::MessageBufferShort => 23,
-            Refusal::NoMessage => 24,
-            Refusal::UnlawfulMessage => 25,
-            Refusal::SameGeneration => 26,
-            Refusal::NoneAwaited => 27,
-            Refusal::UnlawfulAnswer => 28,
-            Refusal::ReadingBufferShort => 29,
-            Refusal::UnknownSource => 30,
-        }
+        self as u8
     }
 }

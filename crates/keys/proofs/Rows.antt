@@ -1,9 +1,9 @@
 -- What a search answers, as a test of whether the key is among those of the row. Assumes nothing.
-use Rattle.std.proofs.Common.{◌≡◌, ℕ, ◌+◌, ◌<◌, ◌≤◌, Bool, false, ◌||◌, eqb, List, length, get_or, drop, is_some, Some, None, Decides, Option, sym, refl, ⊎_elim}
-use Rattle.std.proofs.lemmas.List.{at_drop_more, at_drop_all}
+use Rattle.std.proofs.Common.{◌≡◌, ℕ, ◌+◌, ◌-◌, ◌<◌, Bool, ◌||◌, eqb, List, [], ◌∷◌, length, take, drop, is_some, Some, None, Decides, Option, sym, refl, ap, ◌∙◌, subst, ⊎_elim}
+use Rattle.std.proofs.lemmas.List.{drop-drop, take_rest}
 use Rattle.std.proofs.lemmas.Bool.{cases_Bool}
 use Rattle.std.proofs.lemmas.Bool.Decides.{Decides-eqb, Decides-by_or}
-use Rattle.std.specs.List.{HoldsAt}
+use Rattle.std.specs.List.{HoldsAt, list_any, enumerate_from}
 use Rattle.keys.specs.Keys.{Test, Sought, among, twice}
 
 -- numbers are told apart by `eqb`
@@ -26,12 +26,16 @@ sought_among same test keys key None nowhere =
 sought_among same test keys key (Some place) first =
     (among_stands same test keys key).1 (place, first.inside, λ d. sym (first.here d))
 
--- whether a key stands twice from a place on: the key there is among the later ones, or one of those stands twice
-pub twice_more : {K : Type 0} (same : K → K → Bool) (keys : List K) (i : ℕ) (d : K) → i < length keys → twice same (drop i keys) ≡ (among same (get_or keys i d) (drop (i + 1) keys) || twice same (drop (i + 1) keys))
-unfolding twice
-twice_more same keys i d inside = at_drop_more (twice same) keys i d inside
+-- a search in the rest of the row, after the place i, says whether the key is among those there
+pub among_later : {K : Type 0} (same : K → K → Bool) → Test same → (keys : List K) (key : K) (i : ℕ) (r : Option ℕ) → Sought (take (length keys - (i + 1)) (drop (i + 1) keys)) key r → among same key (drop (i + 1) keys) ≡ is_some r
+among_later same test keys key i r sought =
+    sought_among same test (drop (i + 1) keys) key r (subst (λ row. Sought row key r) (take_rest keys (i + 1)) sought)
 
--- past the last place no key stands twice
-pub twice_all : {K : Type 0} (same : K → K → Bool) (keys : List K) (i : ℕ) → length keys ≤ i → twice same (drop i keys) ≡ false
+-- a key stands twice from the place i on exactly if one there is among the later ones
+pub twice_later : {K : Type 0} (same : K → K → Bool) (keys rest : List K) (i : ℕ) → drop i keys ≡ rest → list_any (λ p. among same p.1 (drop (p.0 + 1) keys)) (enumerate_from i rest) ≡ twice same rest
 unfolding twice
-twice_all same keys i past = at_drop_all (twice same) keys i past
+twice_later same keys [] i is = refl
+twice_later same keys (k ∷ ks) i is =
+    let later : drop (i + 1) keys ≡ ks = sym (drop-drop 1 i keys) ∙ ap (drop 1) is in
+    ap (λ l. among same k l || list_any (λ p. among same p.1 (drop (p.0 + 1) keys)) (enumerate_from (i + 1) ks)) later
+    ∙ ap (λ b. among same k ks || b) (twice_later same keys ks (i + 1) later)

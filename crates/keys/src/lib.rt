@@ -2,42 +2,37 @@
 #![tactic(auto)]
 
 ghost use Rattle.std.specs.Prelude.{◌≡◌, Bool};
-ghost use Rattle.std.specs.declared.cmp.Ordering.TheVariants.{Less};
 ghost use Rattle.std.specs.declared.cmp.Ordering.{Ordering};
-ghost use Rattle.std.specs.Ordering.{is_eq, ordering_reverse, nat_cmp};
+ghost use Rattle.std.specs.Ordering.{is_eq, nat_cmp};
 ghost use Rattle.keys.specs.Keys.{Sought, Test, twice};
 ghost use Rattle.std.proofs.Common.{rules};
 
 use std::cmp::Ordering;
 
 /// A kind of key: values in a total order, in which two are equal exactly if they are the same value.
-pub trait Key: Sized {
+pub trait Key: Ord {
     /// How the first key compares with the second.
     ghost order: { Self → Self → Ordering };
 
     /// How this key compares with the other one.
+    // Beside `cmp`, which for bytes is the library's: an edit of the gate turns each kind's comparison round here.
     fn compare(&self, other: &Self) -> Ordering
         ensures { result ≡ order self.now other.now };
 
+    /// The order is that of the type, and so total: exchanging the keys reverses the answer, and "less" chains.
+    ghost ordered: { (x y : Self) → Self.cmp x y ≡ order x y };
+
     /// Two keys are equal in the order exactly if they are the same.
     ghost same: { Test (λ x y. is_eq (order x y)) };
-
-    /// With the two keys exchanged, the answer is reversed.
-    ghost turned: { (x y : Self) → order y x ≡ ordering_reverse (order x y) };
-
-    /// A key that is less than a second, which is less than a third, is less than the third.
-    ghost chain: { (x y z : Self) → order x y ≡ Less → order y z ≡ Less → order x z ≡ Less };
 }
 
 /// Bytes, by their number.
 impl Key for u8 {
     ghost order = { nat_cmp };
 
+    ghost ordered = { Prim.search rules };
+
     ghost same = { Prim.search rules };
-
-    ghost turned = { Prim.search rules };
-
-    ghost chain = { Prim.search rules };
 
     fn compare(&self, other: &u8) -> Ordering {
         self.cmp(other)
@@ -48,22 +43,14 @@ impl Key for u8 {
 pub fn find<K: Key>(keys: &[K], key: &K) -> Option<usize>
     ensures { Sought keys.now key.now result }
 {
-    for (i, x) in keys.iter().enumerate() {
-        if x.compare(key).is_eq() {
-            return Some(i);
-        }
-    }
-    None
+    keys.iter().position(|x| x.compare(key).is_eq())
 }
 
 /// Whether a key stands in the row twice.
 pub fn has_twice<K: Key>(keys: &[K]) -> bool
     ensures { (same : K → K → Bool) → Test same → result ≡ twice same keys.now }
 {
-    for (i, key) in keys.iter().enumerate() {
-        if find(&keys[i + 1..], key).is_some() {
-            return true;
-        }
-    }
-    false
+    keys.iter()
+        .enumerate()
+        .any(|(i, key)| find(&keys[i + 1..], key).is_some())
 }

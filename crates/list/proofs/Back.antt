@@ -1,13 +1,14 @@
 -- What is written of a lawful list reads back. Assumes nothing.
-use Rattle.std.proofs.Common.{◌≡◌, ℕ, ◌+◌, ◌/◌, ◌%◌, ◌^◌, ◌<◌, ◌≤◌, Bool, true, false, cond, not, ◌&&◌, leb, List, [], ◌∷◌, ◌++◌, length, drop, Some, None, Option, sym, refl, ap, ◌∙◌, arith}
+use Rattle.std.proofs.Common.{◌≡◌, ℕ, ◌+◌, ◌/◌, ◌%◌, ◌^◌, ◌<◌, Bool, true, false, cond, not, ◌&&◌, leb, List, [], ◌∷◌, ◌++◌, length, drop, Some, None, Option, sym, refl, ap, ◌∙◌, arith}
 use Rattle.std.proofs.lemmas.List.{take_at, drop_at, length-append}
 use Rattle.std.proofs.lemmas.Bool.{le-leb, lt-leb, and_parts, and_from}
 use Rattle.std.proofs.lemmas.Bool.Decides.{nat_tests}
 use Rattle.event.specs.declared.id.UniqueId.{UniqueId}
 use Rattle.event.specs.Bytes.{Bytes, byte, same_bytes}
-use Rattle.event.specs.Sources.{Occurrence, occurrence, is_vendor, lawful_id, lawful_info, lawful_scope, lawful_reading, lawful_occurrence}
+use Rattle.event.specs.Sources.{Occurrence, occurrence, is_vendor, lawful_id, lawful_info, lawful_scope, lawful_occurrence}
 use Rattle.list.specs.Lists.{occurrence_bytes, body, over, Told, these, overflow, list_bytes, each_lawful, lawful_told, reading_length, front, has_front, fronts, tells as told_bytes, Listing, listing, read_list}
 use Rattle.list.specs.Laws.{ListsReadBack}
+use Rattle.event.proofs.Readings.{reading-short}
 use Rattle.event.proofs.SameBytes.{same_refl}
 use Rattle.list.proofs.Numbers.{four-le32}
 use Rattle.list.proofs.Lengths.{not_over, lawful_not_over}
@@ -20,10 +21,6 @@ info_small u e = go u.identifier u.scope u.info (and_parts (lawful_scope u.ident
   where
     go : (identifier scope info : ℕ) → lawful_info identifier scope info ≡ true → info < 2 ^ 32
     go identifier scope info h = grind (arith, nat_tests)
-
-pub reading-short : (identifier : ℕ) (reading : Bytes) → lawful_reading identifier reading ≡ true → length reading ≤ 64
-unfolding lawful_reading
-reading-short identifier reading e = grind (arith, nat_tests)
 
 -- LISTS
 

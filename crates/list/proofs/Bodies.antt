@@ -1,5 +1,6 @@
 -- A body of lawful occurrences, step by step. Assumes nothing.
-use Rattle.std.proofs.Common.{◌≡◌, ℕ, suc, ◌+◌, ◌-◌, ◌<◌, ◌≤◌, Bool, true, false, cond, ◌&&◌, eqb, List, [], ◌∷◌, ◌++◌, length, take, drop, sym, refl, ap, ◌∙◌, ⊎_elim, arith}
+use Rattle.std.proofs.Common.{◌≡◌, ℕ, suc, ◌+◌, ◌-◌, ◌<◌, ◌≤◌, Bool, true, false, cond, ◌&&◌, eqb, List, [], ◌∷◌, ◌++◌, length, take, drop, MatchOption, sym, refl, ap, ◌∙◌, ⊎_elim, arith}
+use Rattle.std.specs.Bool.{then_some}
 use lib.Dec.{eqb-zero-suc, eqb-suc-zero, eqb-suc-suc}
 use Rattle.std.proofs.lemmas.List.{drop_more, drop_at, length-take-le, take-append-drop}
 use Rattle.std.proofs.lemmas.Bool.{le-leb, eqb-true, eq-eqb, and_parts, and_from, cases_Bool}
@@ -9,10 +10,10 @@ use Rattle.event.specs.Sources.{Occurrence, is_vendor, lawful_id, lawful_reading
 use Rattle.list.specs.Lists.{specific_length, vendor_length, occurrence_bytes, body, each_lawful, reading_length, front, has_front, fronts}
 use Rattle.list.specs.Reader.{Begins, other_length, in_form, is_body}
 use Rattle.list.specs.declared.types.Front.{Front}
+use Rattle.event.proofs.Readings.{reading-short}
 use Rattle.event.proofs.SameBytes.{same_is, same_from}
 use Rattle.list.proofs.Passed.{same_test}
 use Rattle.list.proofs.Numbers.{le32-four}
-use Rattle.list.proofs.Back.{reading-short}
 use Rattle.list.proofs.Steps.{behind, fronts_end, fronts_more, front_by_length}
 
 -- every one is a byte
@@ -148,11 +149,16 @@ module _ (s : Bytes) (fit : Fit s) (f : Front) (begins : Begins s f) where
       ∙ reorder (eqb (length fs) n) (head_right s) (same_bytes rest (body fs)) (lawful_occurrence o) (each_lawful fs)
       ∙ (λ i. sym in-form i && is_body n (sym begins.rest i))
 
-  pub body_not_in_form : in_form f ≡ false → (n : ℕ) → is_body (suc n) s ≡ false
+  body_not_in_form : in_form f ≡ false → (n : ℕ) → is_body (suc n) s ≡ false
   body_not_in_form e n = ⊎_elim (λ yes. body_more yes n ∙ ap (λ (v : Bool). v && is_body n f.rest.now) e) (λ no_front. body_without_front s no_front n) (cases_Bool (has_front s))
 
-  pub body_in_form : in_form f ≡ true → (n : ℕ) → is_body (suc n) s ≡ is_body n f.rest.now
+  body_in_form : in_form f ≡ true → (n : ℕ) → is_body (suc n) s ≡ is_body n f.rest.now
   body_in_form e n = body_more (in-form-stands e) n ∙ ap (λ (v : Bool). v && is_body n f.rest.now) e
+
+  -- behind a lawful occurrence the body goes on, and where none stands there is no body
+  pub body_behind : (v : Bool) → v ≡ in_form f → MatchOption (then_some v f.rest) ((n : ℕ) → is_body (suc n) s ≡ false) (λ rest. (n : ℕ) → is_body (suc n) s ≡ is_body n rest.now)
+  body_behind true e = body_in_form (sym e)
+  body_behind false e = body_not_in_form (sym e)
 
 -- after the last occurrence no byte is left
 pub body-none : (s : Bytes) → is_body 0 s ≡ eqb (length s) 0

@@ -1,6 +1,6 @@
 -- The occurrences in bytes, step by step. Assumes nothing.
-use Rattle.std.proofs.Common.{◌≡◌, ℕ, zero, suc, ◌+◌, ◌-◌, ◌<◌, ◌≤◌, Bool, true, false, cond, ◌&&◌, leb, List, [], ◌∷◌, ◌++◌, length, take, drop, set, sym, refl, ap, ◌∙◌, arith}
-use Rattle.std.proofs.lemmas.List.{length-take-le, length-append, append_assoc, append-nil, take_more_set}
+use Rattle.std.proofs.Common.{◌≡◌, ℕ, zero, suc, ◌+◌, ◌-◌, ◌<◌, ◌≤◌, Bool, true, false, cond, ◌&&◌, leb, List, [], ◌∷◌, ◌++◌, length, drop, sym, refl, ap, ◌∙◌, arith}
+use Rattle.std.proofs.lemmas.List.{length-take-le, length-append}
 use Rattle.std.proofs.lemmas.Bool.{le-leb, cond_both}
 use Rattle.event.specs.Bytes.{Bytes}
 use Rattle.event.specs.Sources.{Occurrence}
@@ -64,26 +64,11 @@ pub length_ids : (os : List Occurrence) → length (ids_of os) ≡ length os
 length_ids [] = refl
 length_ids (o ∷ os) = ap suc (length_ids os)
 
--- so many are gathered, one is read, and the others are left
-pub gathered_count : (ids : List UniqueId) (count : ℕ) (all ls os : List Occurrence) (o : Occurrence)
-    → take count ids ++ ids_of ls ≡ ids_of all → ls ≡ o ∷ os → count ≤ length ids → count + 1 + length os ≡ length all
-gathered_count ids count all ls os o e is h =
-    let a = length-take-le count ids h in
-    let b = length-append (take count ids) (ids_of ls) in
-    let d = ap length e in
-    let f = length_ids all in
-    let g : length (ids_of ls) ≡ suc (length os) = length_ids ls ∙ ap length is in
+-- some are gathered, one is read, and the others are left
+pub gathered_count : (ids : List UniqueId) (all ls os : List Occurrence) (o : Occurrence) → ids ++ ids_of ls ≡ ids_of all → ls ≡ o ∷ os → length ids + 1 + length os ≡ length all
+gathered_count ids all ls os o e is =
+    let a = length-append ids (ids_of ls) in
+    let b = ap length e in
+    let d = length_ids all in
+    let f : length (ids_of ls) ≡ suc (length os) = length_ids ls ∙ ap length is in
     omega arith
-
-pub gathered_more : (ids : List UniqueId) (count : ℕ) (all ls os : List Occurrence) (o : Occurrence)
-    → take count ids ++ ids_of ls ≡ ids_of all → ls ≡ o ∷ os → count < length ids → take (count + 1) (set ids count o.id) ++ ids_of os ≡ ids_of all
-gathered_more ids count all ls os o e is h =
-    ap (λ (l : List UniqueId). l ++ ids_of os) (take_more_set ids count o.id h)
-    ∙ append_assoc (take count ids) (o.id ∷ []) (ids_of os)
-    ∙ ap (λ (l : List Occurrence). take count ids ++ ids_of l) (sym is)
-    ∙ e
-
-pub gathered_all : (ids : List UniqueId) (count : ℕ) (all ls : List Occurrence) → take count ids ++ ids_of ls ≡ ids_of all → ls ≡ [] → take (count - 0) ids ≡ ids_of all
-gathered_all ids count all ls e is =
-    let same : count - 0 ≡ count = omega arith in
-    ap (λ (k : ℕ). take k ids) same ∙ sym (append-nil (take count ids)) ∙ ap (λ (l : List Occurrence). take count ids ++ ids_of l) (sym is) ∙ e

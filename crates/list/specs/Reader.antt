@@ -1,11 +1,12 @@
 -- What the reader asks of bytes, one question after the other. Assumes nothing.
-use Rattle.std.specs.Prelude.{◌≡◌, ℕ, ◌+◌, ◌≤◌, Bool, cond, not, ◌&&◌, length, drop, Some, None, Option, ◌==◌, nat_le}
+use Rattle.std.specs.Prelude.{◌≡◌, ℕ, ◌+◌, ◌≤◌, Bool, cond, not, ◌&&◌, length, drop, Some, None, Option, Result, ◌==◌, nat_le}
 use Rattle.keys.specs.Keys.{twice}
 use Rattle.event.specs.Bytes.{Bytes, byte, same_bytes}
 use Rattle.event.specs.Sources.{same_id, is_vendor, lawful_id, lawful_reading}
 use Rattle.list.specs.Lists.{Told, these, overflow, body, each_lawful, ids_of, reading_length, front, fronts}
 use Rattle.list.specs.declared.types.Front.{Front}
-use Rattle.list.specs.declared.types.OccurrenceList.{OccurrenceList}
+use Rattle.list.specs.declared.types.Occurrences.{Occurrences}
+use Rattle.list.specs.declared.types.Overflow.{Overflow}
 use Rattle.list.specs.View.{told_by}
 
 -- what stands at the front of bytes that have an occurrence's nine bytes and its reading
@@ -45,6 +46,6 @@ read_told number info bytes =
     (cond (info == 7 + length bytes && lawful_body number bytes) (Some (these (fronts number bytes))) None)
 
 -- what a list tells, if it is one
-abbrev pub told_if : Option OccurrenceList → Option Told
+abbrev pub told_if : Option (Result Occurrences Overflow) → Option Told
 told_if None = None
 told_if (Some l) = Some (told_by l)

@@ -1,12 +1,11 @@
 -- What the values of the reader stand for. Assumes nothing.
-use Rattle.std.specs.Prelude.{◌≡◌, List, [], ◌∷◌, Some, None, Option}
+use Rattle.std.specs.Prelude.{◌≡◌, List, [], ◌∷◌, Some, None, Option, Ok, Err, Result}
 use Rattle.event.specs.Sources.{Occurrence}
 use Rattle.event.specs.View.{occurrence_of}
 use Rattle.event.specs.declared.occurrence.Occurrence.{Occurrence as Event}
 use Rattle.list.specs.Lists.{Told, these, overflow, fronts, Listing, listing}
 use Rattle.list.specs.declared.types.Occurrences.{Occurrences}
-use Rattle.list.specs.declared.types.OccurrenceList.{OccurrenceList}
-use Rattle.list.specs.declared.types.OccurrenceList.TheVariants.{Overflow, These}
+use Rattle.list.specs.declared.types.Overflow.{Overflow}
 use Rattle.list.specs.declared.types.ListRead.{ListRead}
 
 -- the occurrences that are left
@@ -14,9 +13,9 @@ abbrev pub left : Occurrences → List Occurrence
 left l = fronts l.number l.rest.now
 
 -- what a list tells
-abbrev pub told_by : OccurrenceList → Told
-told_by Overflow = overflow
-told_by (These l) = these (left l)
+abbrev pub told_by : Result Occurrences Overflow → Told
+told_by (Ok l) = these (left l)
+told_by (Err e) = overflow
 
 -- a list as it is read
 abbrev pub listing_of : ListRead → Listing

@@ -11,45 +11,31 @@ use event::occurrence::Occurrence;
 use event::reading::Reading;
 
 // What stands at the front of the bytes, if they have the nine bytes of an occurrence and its reading.
-pub(crate) fn first<'a>(bytes: &'a [u8]) -> Option<Front<'a>>
+pub(crate) fn first(bytes: &[u8]) -> Option<Front<'_>>
     ensures { MatchOption result ((nat_le 9 (length bytes.now) && nat_le (reading_length bytes.now) (length (drop 9 bytes.now))) ≡ false) (λ f. Begins bytes.now f) }
 {
-    let [
+    let (head, behind) = bytes.split_first_chunk::<9>()?;
+    // Four names for the info: `info @ ..` gets no proof.
+    let [mark, specific, vendor, identifier, a, b, c, d, scope] = *head;
+    let length = usize::from(specific) + usize::from(vendor);
+    let (reading, rest) = behind.split_at_checked(length)?;
+    let info = u32::from_le_bytes([a, b, c, d]);
+    Some(Front {
         mark,
         specific,
         vendor,
-        identifier,
-        info0,
-        info1,
-        info2,
-        info3,
-        scope,
-        behind @ ..,
-    ] = bytes
-    else {
-        return None;
-    };
-    let length = *specific as usize + *vendor as usize;
-    if length > behind.len() {
-        return None;
-    }
-    let info = u32::from_le_bytes([*info0, *info1, *info2, *info3]);
-    Some(Front {
-        mark: *mark,
-        specific: *specific,
-        vendor: *vendor,
         id: UniqueId {
-            identifier: *identifier,
-            scope: *scope,
+            identifier,
+            scope,
             info,
         },
-        reading: &behind[0..length],
-        rest: &behind[length..],
+        reading,
+        rest,
     })
 }
 
 /// The occurrences that are left, in their order.
-impl<'a> Iterator for Occurrences<'a> {
+impl Iterator for Occurrences<'_> {
     type Item = Occurrence;
 
     ghost next_gives = { λ s r t. Hands s r t };
@@ -58,12 +44,10 @@ impl<'a> Iterator for Occurrences<'a> {
 
     /// The next occurrence, if one is left.
     fn next(&mut self) -> Option<Occurrence> {
-        if self.number == 0 {
-            return None;
-        }
+        let number = self.number.checked_sub(1)?;
         let found = first(self.rest)?;
         let reading = Reading::new(found.reading)?;
-        self.number -= 1;
+        self.number = number;
         self.rest = found.rest;
         Some(Occurrence {
             id: found.id,

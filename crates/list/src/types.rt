@@ -2,18 +2,20 @@
 use event::id::UniqueId;
 
 /// The occurrences of a list that are left to read.
+// The items of an enable list have a type of the same shape: one for both would need a trait of what splits a part off, with a
+// law that is longer than either.
 #[derive(Clone, Copy)]
 pub struct Occurrences<'a> {
     pub(crate) number: u8,
     pub(crate) rest: &'a [u8],
 }
 
+/// The occurrences were too many for a list.
+#[derive(Clone, Copy, PartialEq, Eq, Debug)]
+pub struct Overflow;
+
 /// What a list tells: its occurrences, or that there were too many for it.
-#[derive(Clone, Copy)]
-pub enum OccurrenceList<'a> {
-    Overflow,
-    These(Occurrences<'a>),
-}
+pub type OccurrenceList<'a> = Result<Occurrences<'a>, Overflow>;
 
 /// A lawful list, with the transmission info of its header.
 #[derive(Clone, Copy)]

@@ -1,5 +1,5 @@
 //! The bytes of an occurrence and of a list's header.
-ghost use Rattle.std.specs.Prelude.{◌≡◌, ◌+◌, ◌≤◌, length};
+ghost use Rattle.std.specs.Prelude.{◌≡◌, ◌≤◌, length};
 ghost use Rattle.event.specs.Bytes.{placed};
 ghost use Rattle.event.specs.Sources.{occurrence};
 ghost use Rattle.event.specs.View.{held};
@@ -8,16 +8,8 @@ ghost use Rattle.list.specs.Lists.{specific_length, vendor_length, occurrence_by
 use event::id::UniqueId;
 use event::reading::Reading;
 
-// Writes `part` from the place `at` on, and says where it ends.
-pub(crate) fn put(out: &mut [u8], at: usize, part: &[u8]) -> usize
-    requires { at + length part.now ≤ length out.old }
-    ensures end { result ≡ at + length part.now }
-    ensures out { out.new ≡ placed out.old at part.now }
-{
-    let end = at + part.len();
-    out[at..end].copy_from_slice(part);
-    end
-}
+// The bytes before an occurrence's reading.
+pub(crate) const OCCURRENCE_HEAD: usize = 9;
 
 // How many of a reading's n bytes are specific info, and how many vendor info.
 fn split_length(identifier: u8, n: u8) -> (u8, u8)
@@ -30,21 +22,20 @@ fn split_length(identifier: u8, n: u8) -> (u8, u8)
     }
 }
 
-// Writes one occurrence from the place `at` on, and says where it ends.
-pub(crate) fn put_occurrence(out: &mut [u8], at: usize, id: UniqueId, reading: &Reading) -> usize
-    requires { at + length (occurrence_bytes (occurrence id (held reading.now))) ≤ length out.old }
-    ensures end { result ≡ at + length (occurrence_bytes (occurrence id (held reading.now))) }
-    ensures out { out.new ≡ placed out.old at (occurrence_bytes (occurrence id (held reading.now))) }
+// Writes one occurrence to the front of `out`, and counts its bytes.
+pub(crate) fn put_occurrence(out: &mut [u8], id: UniqueId, reading: &Reading) -> usize
+    requires { length (occurrence_bytes (occurrence id (held reading.now))) ≤ length out.old }
+    ensures count { result ≡ length (occurrence_bytes (occurrence id (held reading.now))) }
+    ensures out { out.new ≡ placed out.old 0 (occurrence_bytes (occurrence id (held reading.now))) }
 {
     let bytes = reading.as_bytes();
     let (specific, vendor) = split_length(id.identifier, bytes.len() as u8);
     let [a, b, c, d] = id.info.to_le_bytes();
-    let body = put(
-        out,
-        at,
-        &[9, specific, vendor, id.identifier, a, b, c, d, id.scope],
-    );
-    put(out, body, bytes)
+    let head = [9, specific, vendor, id.identifier, a, b, c, d, id.scope];
+    let end = OCCURRENCE_HEAD + bytes.len();
+    out[0..OCCURRENCE_HEAD].copy_from_slice(&head);
+    out[OCCURRENCE_HEAD..end].copy_from_slice(bytes);
+    end
 }
 
 // The seven bytes before a body.

@@ -2,12 +2,11 @@
 ghost use Rattle.std.specs.Prelude.{◌≡◌, ◌%◌, ◌^◌, ◌<◌, ◌≤◌, true, length, if◌then◌else◌, Some, count_ones, nat_lt};
 ghost use Rattle.event.specs.Identifiers.{bit};
 ghost use Rattle.event.specs.View.{held, held_if};
-ghost use Rattle.board.specs.Boards.{ids};
-ghost use Rattle.marks.specs.Marking.{unmarked, update, occurrences};
-ghost use Rattle.marks.specs.View.{marks_of};
+ghost use Rattle.marks.specs.Marking.{unmarked, update};
+ghost use Rattle.marks.specs.View.{marks_of, occurrences_in};
 ghost use Rattle.marks.specs.Written.{nothing_in};
 
-use crate::types::Marks;
+use crate::types::{Marked, Marks};
 use board::Board;
 use event::reading::Reading;
 
@@ -47,25 +46,23 @@ impl Marks {
     pub fn get(&self, place: usize) -> Option<Reading>
         ensures { held_if result ≡ marks_of self.now place }
     {
-        if is_set(self.set, place) {
-            Some(self.readings[place])
-        } else {
-            None
-        }
+        is_set(self.set, place).then_some(*self.readings.get(place)?)
     }
+}
 
+impl<B: Board> Marked<'_, B> {
     /// How many sources of the board are marked.
-    pub fn number<B: Board>(&self, board: &B) -> u8
-        ensures { result ≡ length (occurrences (ids (B.Board.told board.now)) (marks_of self.now)) }
+    pub fn number(&self) -> u8
+        ensures { result ≡ length (occurrences_in B.Board.told self.now) }
     {
-        ones_below(self.set, board.count())
+        ones_below(self.marks.set, self.board.count())
     }
 
     /// Whether no source of the board is marked.
-    pub fn is_empty<B: Board>(&self, board: &B) -> bool
-        ensures { result ≡ nothing_in (occurrences (ids (B.Board.told board.now)) (marks_of self.now)) }
+    pub fn is_empty(&self) -> bool
+        ensures { result ≡ nothing_in (occurrences_in B.Board.told self.now) }
     {
-        self.number(board) == 0
+        self.number() == 0
     }
 }
 

@@ -6,6 +6,7 @@ use Rattle.wire.proofs.MessagesBack.{events_read_back, answers_read_back}
 use Rattle.protocol.specs.Pair.{Pair, new_pair, Call, step, run}
 use Rattle.protocol.specs.History.{History, new_history, after_call, after_calls}
 use Rattle.protocol.specs.Promise.{Given, PresentOrMarked, WasSo, BookShowsPresent, BookShowsWhatWas}
+use Rattle.promises.proofs.RunMarks.{run-append}
 use Rattle.promises.proofs.Right.{book-shows-present, book-shows-what-was}
 use Rattle.pair.specs.View.{step_if}
 use Rattle.pair.specs.Runs.{prepend}
@@ -19,10 +20,6 @@ present = book-shows-present events_read_back answers_read_back
 -- the second promise
 pub what_was : BookShowsWhatWas
 what_was = book-shows-what-was events_read_back answers_read_back
-
-run-append : (p : Pair) (cs ds : List Call) → run p (cs ++ ds) ≡ run (run p cs) ds
-run-append p [] ds = refl
-run-append p (c ∷ cs) ds = run-append (step p c).pair cs ds
 
 after-append : (p : Pair) (cs ds : List Call) (h : History) → after_calls p (cs ++ ds) h ≡ after_calls (run p cs) ds (after_calls p cs h)
 after-append p [] ds h = refl

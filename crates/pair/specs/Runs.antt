@@ -1,5 +1,5 @@
 -- Runs of a pair as the code makes them. Assumes nothing.
-use Rattle.std.specs.Prelude.{◌≡◌, ℕ, cond, ◌&&◌, List, [], ◌∷◌, map, length, replicate, Some, None, Option, Result, nat_le, nat_lt}
+use Rattle.std.specs.Prelude.{◌≡◌, ℕ, min, cond, ◌&&◌, List, [], ◌∷◌, map, length, replicate, Some, None, Option, Result, nat_le}
 use Rattle.event.specs.declared.refusal.Refusal.{Refusal}
 use Rattle.event.specs.Bytes.{Bytes}
 use Rattle.event.specs.Outcomes.{Outcome, over_front}
@@ -12,7 +12,7 @@ use Rattle.pair.specs.declared.record.Record.{Record}
 
 -- the length of the buffer that is lent
 abbrev pub room_of : Task → ℕ
-room_of t = cond (nat_lt t.room 4224) t.room 4224
+room_of t = min t.room 4224
 
 -- the call of the definitions, if it is one
 abbrev pub call_for : Pair → Task → Option Call

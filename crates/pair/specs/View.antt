@@ -27,7 +27,6 @@ use Rattle.protocol.specs.Pair.{
   step,
 }
 use Rattle.endpoint.specs.View.{as_endpoint}
-use Rattle.book.specs.View.{book_in}
 use Rattle.pair.specs.Hands.{awaited}
 use Rattle.pair.specs.declared.call.Call.{Call as Told}
 use Rattle.pair.specs.declared.call.Call.TheVariants.{
@@ -50,7 +49,7 @@ use Rattle.pair.specs.declared.pair.Pair.{Pair as Kept}
 
 -- the pair of the definitions that the code's stands for: what the board tells, and what lies on the carrier
 abbrev pub pair_in : {B C : Type 0} → (B → Sources) → (C → Line) → Kept B C → Pair
-pair_in told carried p = pair_of (as_endpoint p.endpoint) (carried p.carrier) (told p.board) (book_in p.manager.book)
+pair_in told carried p = pair_of (as_endpoint p.endpoint) (carried p.carrier) (told p.board) p.manager.book
 
 -- an answer with the receipt under way; without one it is no call
 abbrev pub answer_if : Option Kind → Bytes → Option Call
@@ -69,7 +68,7 @@ call_of kind room Tick = Some (ticks room)
 call_of kind room LinkUp = Some link_goes_up
 call_of kind room LinkDown = Some link_goes_down
 call_of kind room Lose = Some loses
-call_of kind room (WriteSync items delay retry) = Some (writes_sync items.now delay.0 retry.0 room)
+call_of kind room (WriteSync items delays) = Some (writes_sync items.now delays.first.0 delays.retry.0 room)
 call_of kind room WriteAck = Some (writes_ack room)
 call_of kind room (Request sender message) = Some (requests sender message.now room)
 call_of kind room (Answer bytes) = answer_if kind bytes.now

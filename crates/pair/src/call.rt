@@ -1,16 +1,14 @@
 //! Calls as data.
-use event::delay::{Seconds, Tenths};
+use event::delay::Delays;
 use event::id::UniqueId;
 use wire::types::Item;
 
 /// Every call of a pair, with all that is handed in but the buffer.
+// Data, and not closures: the promises speak of lists of calls.
 #[derive(Clone, Copy)]
 pub enum Call<'a> {
     /// The source at a place has this reading now.
-    Change {
-        place: usize,
-        reading: &'a [u8],
-    },
+    Change { place: usize, reading: &'a [u8] },
     /// 100 ms have passed.
     Tick,
     /// The link comes up.
@@ -20,22 +18,13 @@ pub enum Call<'a> {
     /// What lies on the carrier is lost.
     Lose,
     /// The book writes a sync.
-    WriteSync {
-        items: &'a [Item],
-        delay: Seconds,
-        retry: Tenths,
-    },
+    WriteSync { items: &'a [Item], delays: Delays },
     /// The book writes an ack.
     WriteAck,
     /// A request of this sender is handed in to the endpoint.
-    Request {
-        sender: u8,
-        message: &'a [u8],
-    },
+    Request { sender: u8, message: &'a [u8] },
     /// An answer is handed in to the book, with the receipt under way.
-    Answer {
-        bytes: &'a [u8],
-    },
+    Answer { bytes: &'a [u8] },
     /// The receipt under way is given up.
     GiveUp,
     /// The book picks up what lies on the carrier.
@@ -43,9 +32,7 @@ pub enum Call<'a> {
     /// What lies on the carrier is fetched, and the book does not hear of it.
     Fetch,
     /// The book shows a source.
-    Show {
-        id: UniqueId,
-    },
+    Show { id: UniqueId },
     /// The endpoint is reset.
     Reset,
 }

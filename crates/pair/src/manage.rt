@@ -2,15 +2,13 @@
 ghost use Rattle.std.specs.Prelude.{◌≡◌, length};
 ghost use Rattle.protocol.specs.Book.{blind, write_sync, write_ack, take_answer, give_up, pick_up};
 ghost use Rattle.book.specs.Turns.{Does};
-ghost use Rattle.book.specs.View.{book_in};
 ghost use Rattle.pair.specs.Hands.{Fills, counted, filled, awaited, with_answer, without_answer, SpendsIf};
 
 use crate::manager::Manager;
 use book::parts::{Book, Receipt};
 use carrier::Carrier;
-use event::delay::{Seconds, Tenths};
+use event::delay::Delays;
 use event::refusal::Refusal;
-use std::mem::replace;
 use wire::types::Item;
 
 // Puts the receipt of a request that was written into a hand, which is empty then. A plain assignment would let the old
@@ -24,9 +22,8 @@ fn hold(
     ensures hand { hand.new ≡ filled written hand.old }
 {
     let (count, receipt) = written?;
-    match replace(hand, Some(receipt)) {
-        None => {}
-        Some(_old) => unreachable(),
+    if let Some(_old) = hand.replace(receipt) {
+        unreachable!()
     }
     Ok(count)
 }
@@ -34,7 +31,7 @@ fn hold(
 impl Manager {
     // A blind book, with nothing under way.
     pub(crate) fn new() -> Manager
-        ensures { book_in result.book ≡ blind }
+        ensures { result.book ≡ blind }
     {
         Manager {
             book: Book::new(),
@@ -47,18 +44,17 @@ impl Manager {
         &mut self,
         buffer: &mut [u8],
         items: &[Item],
-        delay: Seconds,
-        retry: Tenths,
+        delays: Delays,
     ) -> Result<usize, Refusal>
-        ensures { Does (write_sync items.now delay.0 retry.0 (length buffer.old) (book_in self.old.book)) (book_in self.new.book) buffer.old buffer.new result }
+        ensures { Does (write_sync items.now delays.first.0 delays.retry.0 (length buffer.old) self.old.book) self.new.book buffer.old buffer.new result }
     {
-        let written = self.book.write_sync(buffer, items, delay, retry);
+        let written = self.book.write_sync(buffer, items, delays);
         hold(&mut self.hand, written)
     }
 
     // The book writes an ack.
     pub(crate) fn write_ack(&mut self, buffer: &mut [u8]) -> Result<usize, Refusal>
-        ensures { Does (write_ack (length buffer.old) (book_in self.old.book)) (book_in self.new.book) buffer.old buffer.new result }
+        ensures { Does (write_ack (length buffer.old) self.old.book) self.new.book buffer.old buffer.new result }
     {
         let written = self.book.write_ack(buffer);
         hold(&mut self.hand, written)
@@ -66,7 +62,7 @@ impl Manager {
 
     // The book takes an answer, if a receipt is under way.
     pub(crate) fn answer(&mut self, bytes: &[u8]) -> Option<Result<usize, Refusal>>
-        ensures { SpendsIf (with_answer (awaited self.old.book.phase) bytes.now (book_in self.old.book)) (book_in self.old.book) (book_in self.new.book) result }
+        ensures { SpendsIf (with_answer (awaited self.old.book.phase) bytes.now self.old.book) self.old.book self.new.book result }
     {
         let receipt = self.hand.take()?;
         Some(self.book.answer(receipt, bytes))
@@ -74,7 +70,7 @@ impl Manager {
 
     // The receipt under way is given up, if there is one.
     pub(crate) fn give_up(&mut self) -> Option<Result<usize, Refusal>>
-        ensures { SpendsIf (without_answer (awaited self.old.book.phase) (book_in self.old.book)) (book_in self.old.book) (book_in self.new.book) result }
+        ensures { SpendsIf (without_answer (awaited self.old.book.phase) self.old.book) self.old.book self.new.book result }
     {
         let receipt = self.hand.take()?;
         Some(self.book.give_up(receipt))
@@ -86,7 +82,7 @@ impl Manager {
         carrier: &C,
         buffer: &mut [u8],
     ) -> Result<usize, Refusal>
-        ensures { Does (pick_up (length buffer.old) (C.Carrier.carried carrier.now).message (book_in self.old.book)) (book_in self.new.book) buffer.old buffer.new result }
+        ensures { Does (pick_up (length buffer.old) (C.Carrier.carried carrier.now).message self.old.book) self.new.book buffer.old buffer.new result }
     {
         self.book.pick_up(carrier, buffer)
     }

@@ -2,7 +2,6 @@
 ghost use Rattle.std.specs.Prelude.{◌≡◌};
 ghost use Rattle.protocol.specs.Pair.{pair_of};
 ghost use Rattle.endpoint.specs.View.{as_endpoint};
-ghost use Rattle.book.specs.View.{book_in};
 ghost use Rattle.pair.specs.Hands.{awaited, without_answer, book_after};
 ghost use Rattle.pair.specs.View.{pair_in, step_if, give_up_if};
 ghost use Rattle.pair.specs.Runs.{note_of, empty_note};
@@ -19,7 +18,7 @@ use event::refusal::Refusal;
 impl Manager {
     // The book, and the receipt under way given up.
     fn end(self) -> Book
-        ensures { book_in result ≡ book_after (without_answer (awaited self.book.phase) (book_in self.book)) (book_in self.book) }
+        ensures { result ≡ book_after (without_answer (awaited self.book.phase) self.book) self.book }
     {
         let Manager { mut book, hand } = self;
         if let Some(receipt) = hand {
@@ -32,35 +31,35 @@ impl Manager {
 impl<B: Board, C: Carrier> Pair<B, C> {
     /// The endpoint.
     pub fn endpoint(&self) -> &Endpoint
-        ensures { as_endpoint result.now ≡ (pair_in B.Board.told C.Carrier.carried self.now).endpoint }
+        ensures { as_endpoint result.now ≡ (pair_in B.told C.carried self.now).endpoint }
     {
         &self.endpoint
     }
 
     /// The book.
     pub fn book(&self) -> &Book
-        ensures { book_in result.now ≡ (pair_in B.Board.told C.Carrier.carried self.now).book }
+        ensures { result.now ≡ (pair_in B.told C.carried self.now).book }
     {
         &self.manager.book
     }
 
     /// The board.
     pub fn board(&self) -> &B
-        ensures { B.Board.told result.now ≡ (pair_in B.Board.told C.Carrier.carried self.now).board }
+        ensures { B.told result.now ≡ (pair_in B.told C.carried self.now).board }
     {
         &self.board
     }
 
     /// The carrier.
     pub fn carrier(&self) -> &C
-        ensures { C.Carrier.carried result.now ≡ (pair_in B.Board.told C.Carrier.carried self.now).line }
+        ensures { C.carried result.now ≡ (pair_in B.told C.carried self.now).line }
     {
         &self.carrier
     }
 
     /// Ends the pair, and hands back its parts. A receipt under way is given up.
     pub fn end(self) -> (Endpoint, Book, B, C)
-        ensures { pair_of (as_endpoint result.0) (C.Carrier.carried result.3) (B.Board.told result.2) (book_in result.1) ≡ step_if (pair_in B.Board.told C.Carrier.carried self) (give_up_if (awaited self.manager.book.phase)) }
+        ensures { pair_of (as_endpoint result.0) (C.carried result.3) (B.told result.2) result.1 ≡ step_if (pair_in B.told C.carried self) (give_up_if (awaited self.manager.book.phase)) }
     {
         let Pair {
             endpoint,

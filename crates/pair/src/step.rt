@@ -17,8 +17,8 @@ use event::refusal::Refusal;
 impl<B: Board, C: Carrier> Pair<B, C> {
     /// A new pair on this board and this carrier: the endpoint is Off, the book is blind, and no receipt is under way.
     pub fn new(board: B, carrier: C) -> Pair<B, C>
-        ensures new { pair_in B.Board.told C.Carrier.carried result ≡ new_pair (B.Board.told board) (C.Carrier.carried carrier) }
-        ensures came { CameFairly (pair_in B.Board.told C.Carrier.carried result) new_history }
+        ensures new { pair_in B.told C.carried result ≡ new_pair (B.told board) (C.carried carrier) }
+        ensures came { CameFairly (pair_in B.told C.carried result) new_history }
     {
         Pair {
             endpoint: Endpoint::new(),
@@ -30,7 +30,7 @@ impl<B: Board, C: Carrier> Pair<B, C> {
 
     // A request is handed in to the endpoint. The report mask byte is the pair's own.
     fn request(&mut self, sender: u8, message: &[u8], buffer: &mut [u8]) -> Result<usize, Refusal>
-        ensures { Steps (pair_in B.Board.told C.Carrier.carried self.old) (some (requests sender message.now (length buffer.old))) (pair_in B.Board.told C.Carrier.carried self.new) buffer.old buffer.new (some result) }
+        ensures { Steps (pair_in B.told C.carried self.old) (some (requests sender message.now (length buffer.old))) (pair_in B.told C.carried self.new) buffer.old buffer.new (some result) }
     {
         let mut mask = 0;
         self.endpoint.request(
@@ -49,7 +49,7 @@ impl<B: Board, C: Carrier> Pair<B, C> {
         call: Call<'_>,
         buffer: &mut [u8],
     ) -> Option<Result<usize, Refusal>>
-        ensures { Steps (pair_in B.Board.told C.Carrier.carried self.old) (call_to (pair_in B.Board.told C.Carrier.carried self.old) (length buffer.old) call.entry) (pair_in B.Board.told C.Carrier.carried self.new) buffer.old buffer.new result }
+        ensures { Steps (pair_in B.told C.carried self.old) (call_to (pair_in B.told C.carried self.old) (length buffer.old) call.entry) (pair_in B.told C.carried self.new) buffer.old buffer.new result }
     {
         let done = match call {
             Call::Change { place, reading } => self
@@ -68,11 +68,7 @@ impl<B: Board, C: Carrier> Pair<B, C> {
                 self.carrier.lose();
                 Ok(0)
             }
-            Call::WriteSync {
-                items,
-                delay,
-                retry,
-            } => self.manager.write_sync(buffer, items, delay, retry),
+            Call::WriteSync { items, delays } => self.manager.write_sync(buffer, items, delays),
             Call::WriteAck => self.manager.write_ack(buffer),
             Call::Request { sender, message } => self.request(sender, message, buffer),
             Call::Answer { bytes } => return self.manager.answer(bytes),
@@ -91,8 +87,8 @@ impl<B: Board, C: Carrier> Pair<B, C> {
     /// One call, which works in the buffer. Nothing is handed back, and nothing changes, where it would spend a receipt and
     /// none is under way.
     pub fn call(&mut self, call: Call<'_>, buffer: &mut [u8]) -> Option<Result<usize, Refusal>>
-        ensures steps { Steps (pair_in B.Board.told C.Carrier.carried self.old) (call_to (pair_in B.Board.told C.Carrier.carried self.old) (length buffer.old) call.entry) (pair_in B.Board.told C.Carrier.carried self.new) buffer.old buffer.new result }
-        ensures kept { KeepsPromises (pair_in B.Board.told C.Carrier.carried self.old) (prepend (call_to (pair_in B.Board.told C.Carrier.carried self.old) (length buffer.old) call.entry) []) (pair_in B.Board.told C.Carrier.carried self.new) }
+        ensures steps { Steps (pair_in B.told C.carried self.old) (call_to (pair_in B.told C.carried self.old) (length buffer.old) call.entry) (pair_in B.told C.carried self.new) buffer.old buffer.new result }
+        ensures kept { KeepsPromises (pair_in B.told C.carried self.old) (prepend (call_to (pair_in B.told C.carried self.old) (length buffer.old) call.entry) []) (pair_in B.told C.carried self.new) }
     {
         self.step(call, buffer)
     }

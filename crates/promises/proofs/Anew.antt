@@ -59,7 +59,7 @@ use Rattle.promises.proofs.Lists.{never}
 use Rattle.promises.proofs.Invariant.{LawfulReadings, Laws}
 use Rattle.promises.proofs.ChangeKeeps.{board-lawful}
 use Rattle.promises.proofs.Requests.{present-lawful}
-use Rattle.promises.proofs.Lawful.{ids-of, readings_of, laws_of}
+use Rattle.promises.proofs.Lawful.{readings_of, laws_of}
 use Rattle.promises.proofs.Steps.{handle_says, sync_kind}
 use Rattle.promises.proofs.Ticks.{either, tick_way}
 use Rattle.promises.proofs.Twins.{SameMessage, SameDestination, SameRemembered, message-done, Twin, run-both}
@@ -287,7 +287,7 @@ just_synced events replies sender request p x =
     let new = new_pair x.board x.line in
     let before = run new x.calls in
     let basic : Basic (ids x.board) (run (new_pair x.board x.line) x.calls) = run_basic (ids x.board) new x.calls (record { same = refl; lawful = readings_of x.board x.lawful; small = omega arith }) in
-    let laws : Laws (ids before.board) = subst Laws (sym basic.same) (laws_of events replies (ids x.board) (ids-of x.board x.lawful)) in
+    let laws : Laws (ids before.board) = subst Laws (sym basic.same) (laws_of events replies x.board x.lawful) in
     subst (Synced sender request) (sym x.last.1)
     (record {
       laws = laws;

@@ -1,11 +1,13 @@
 -- A change of a source keeps what the book has learned. Assumes nothing.
 use Rattle.std.proofs.Common.{◌≡◌, ℕ, Bool, true, false, cond, eqb, ◌⊎◌, List, ◌∷◌, Some as some, None as none, Option, sym, refl, ap, ◌∙◌, subst, inl, inr, true≢false}
+use Rattle.std.proofs.lemmas.Option.{same_Some}
 use Rattle.std.proofs.lemmas.Bool.Decides.{eqb_tells}
 use Rattle.event.specs.declared.id.UniqueId.{UniqueId}
 use Rattle.event.specs.Bytes.{Bytes}
 use Rattle.event.specs.Identifiers.{Words, has}
 use Rattle.event.specs.Sources.{Occurrence, occurrence, lawful_reading}
 use Rattle.board.specs.Boards.{Sources, ids, at, reread}
+use Rattle.marks.specs.Lawful.{LawfulMarks}
 use Rattle.marks.specs.Marking.{Marking, update}
 use Rattle.carrier.specs.Carriers.{Message}
 use Rattle.protocol.specs.declared.types.State.{State}
@@ -14,8 +16,8 @@ use Rattle.protocol.specs.Endpoint.{Endpoint, in_state, mark, changed}
 use Rattle.protocol.specs.Promise.{Marked, Had}
 use Rattle.board.proofs.Rereads.{ids-reread, at_reread_other}
 use Rattle.promises.proofs.Boards.{reread_hit}
-use Rattle.promises.proofs.Lists.{some_is, never}
-use Rattle.promises.proofs.Invariant.{LawfulReadings, LawfulMarks, Now, Right, Unmarked, Shows, Sound}
+use Rattle.promises.proofs.Lists.{never}
+use Rattle.promises.proofs.Invariant.{LawfulReadings, Now, Right, Unmarked, Shows, Sound}
 use Rattle.promises.proofs.EndpointKeeps.{Kept, shows_more}
 
 pub hit : {A : Type 0} (f : ℕ → A) (p : ℕ) (v : A) (q : ℕ) → eqb q p ≡ true → update f p v q ≡ v
@@ -35,7 +37,7 @@ module _ (us : List UniqueId) (b : Sources) (same : ids b ≡ us) (u : UniqueId)
   b' = reread b p r
 
   same_source : (q : ℕ) (v : UniqueId) → q ≡ p → at us q ≡ some v → v ≡ u
-  same_source q v is a = some_is v u (sym a ∙ ap (at us) is ∙ here)
+  same_source q v is a = same_Some v u (sym a ∙ ap (at us) is ∙ here)
 
   set_here : (q : ℕ) → q ≡ p → Now b' q u r
   set_here q is = ap (at (reread b p r)) is ∙ reread_hit b p u r (ap (λ vs. at vs p) same ∙ here)
@@ -56,7 +58,7 @@ module _ (us : List UniqueId) (b : Sources) (same : ids b ≡ us) (u : UniqueId)
   board-lawful ok q s a = go (eqb_tells q p)
     where
       go : Tells q p → lawful_reading s.id.identifier s.reading ≡ true
-      go (inl h) = subst (λ (x : Occurrence). lawful_reading x.id.identifier x.reading ≡ true) (some_is (occurrence u r) s (sym (set_here q h.1) ∙ a)) allowed
+      go (inl h) = subst (λ (x : Occurrence). lawful_reading x.id.identifier x.reading ≡ true) (same_Some (occurrence u r) s (sym (set_here q h.1) ∙ a)) allowed
       go (inr h) = ok q s (elsewhere q h.1 ∙ a)
 
   pub marks-lawful : (m : Marking) → LawfulMarks us m → LawfulMarks us (update m p (some r))
@@ -64,7 +66,7 @@ module _ (us : List UniqueId) (b : Sources) (same : ids b ≡ us) (u : UniqueId)
     where
       go : Tells q p → lawful_reading v.identifier s ≡ true
       go (inl h) =
-          ap (lawful_reading v.identifier) (some_is s r (sym x ∙ hit m p (some r) q h.0))
+          ap (lawful_reading v.identifier) (same_Some s r (sym x ∙ hit m p (some r) q h.0))
           ∙ ap (λ (x : UniqueId). lawful_reading x.identifier r) (same_source q v h.1 a)
           ∙ allowed
       go (inr h) = ok q v s a (sym (miss m p (some r) q h.0) ∙ x)
@@ -76,7 +78,7 @@ module _ (us : List UniqueId) (b : Sources) (same : ids b ≡ us) (u : UniqueId)
       go : Tells q p → Had (b' ∷ h) q (occurrence v s)
       go (inl k) =
           inl
-          (now_hit q v k.1 a ∙ ap {B = Option Occurrence} (λ y. some (occurrence v y)) (some_is r s (sym (hit m p (some r) q k.0) ∙ x)))
+          (now_hit q v k.1 a ∙ ap {B = Option Occurrence} (λ y. some (occurrence v y)) (same_Some r s (sym (hit m p (some r) q k.0) ∙ x)))
       go (inr k) = inr (old q v s a (sym (miss m p (some r) q k.0) ∙ x))
 
   module _ (enabled : Words) (off : has enabled u.identifier ≡ false) where
@@ -117,7 +119,7 @@ module _ (us : List UniqueId) (b : Sources) (same : ids b ≡ us) (u : UniqueId)
     -- the mark's reading is the board's
     marked_now : (m : Marking) (q : ℕ) (v : UniqueId) (s : Bytes) → at us q ≡ some v → update m p (some r) q ≡ some s → eqb q p ≡ true → q ≡ p → Now b' q v s
     marked_now m q v s a x t is =
-        now_hit q v is a ∙ ap {B = Option Occurrence} (λ y. some (occurrence v y)) (some_is r s (sym (hit m p (some r) q t) ∙ x))
+        now_hit q v is a ∙ ap {B = Option Occurrence} (λ y. some (occurrence v y)) (same_Some r s (sym (hit m p (some r) q t) ∙ x))
 
     -- a mark in prior
     right_prior : Right us enabled prior since b → Unmarked since → Right us enabled (update prior p (some r)) since b'

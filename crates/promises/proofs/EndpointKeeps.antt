@@ -1,5 +1,6 @@
 -- The endpoint's own actions keep what the book has learned. Assumes nothing.
 use Rattle.std.proofs.Common.{◌≡◌, ℕ, ◌+◌, ◌*◌, ◌%◌, ◌<◌, min, Bool, true, false, cond, not, ◌&&◌, eqb, ltb, leb, List, [], ◌∷◌, Some as some, Option, sym, refl, ap, ◌∙◌, inr, arith}
+use Rattle.std.proofs.lemmas.Option.{same_Some}
 use mathlib.Core.Bool.{false≢true}
 use Rattle.std.proofs.lemmas.Bool.Decides.{Decides-ltb}
 use Rattle.event.specs.declared.id.UniqueId.{UniqueId}
@@ -13,7 +14,7 @@ use Rattle.carrier.specs.Carriers.{Message, message_to, Line, linked, takes}
 use Rattle.protocol.specs.declared.types.State.{State}
 use Rattle.protocol.specs.declared.types.State.TheVariants.{Off, Armed, Sending, Failed}
 use Rattle.protocol.specs.Endpoint.{Endpoint, in_state, fail, stay, begun, message_of, send, start, again, any_listed, timed, tick, reset, Turn, turn}
-use Rattle.promises.proofs.Lists.{some_is, never}
+use Rattle.promises.proofs.Lists.{never}
 use Rattle.promises.proofs.Words.{none_in}
 use Rattle.promises.proofs.Invariant.{Shows, OwnOne, Own, Held, Sound}
 
@@ -47,7 +48,7 @@ cond_keeps us e b l b' false s t k k' = k'
 put_own : (us : List UniqueId) (taken : Bool) (line : Line) (d n : ℕ) (e : Endpoint) (attempt waited : ℕ) → n < 8 →
     ((m : Message) → line.message ≡ some m → OwnOne us (Sending attempt waited) e m) →
     (m : Message) → (cond taken (linked line.link (some (message_to d (message_of us n e)))) line).message ≡ some m → OwnOne us (Sending attempt waited) e m
-put_own us true line d n e attempt waited few keeps m is = (n, few, ap (λ (x : Message). x.bytes) (sym (some_is _ m is)))
+put_own us true line d n e attempt waited few keeps m is = (n, few, ap (λ (x : Message). x.bytes) (sym (same_Some _ m is)))
 put_own us false line d n e attempt waited few keeps m is = keeps m is
 
 next : (g : ℕ) → (g + 1) % 32 < 32

@@ -6,6 +6,7 @@ use Rattle.event.specs.Identifiers.{Words, has}
 use Rattle.event.specs.Sources.{Occurrence, occurrence, lawful_reading}
 use Rattle.board.specs.Boards.{Sources, ids, at}
 use Rattle.list.specs.Lists.{these, told}
+use Rattle.marks.specs.Lawful.{LawfulMarks}
 use Rattle.marks.specs.Marking.{Marking, occurrences}
 use Rattle.wire.specs.declared.types.Kind.TheVariants.{Sync as sync, Ack as ack}
 use Rattle.wire.specs.Messages.{event_message, read_event, answer_message, read_answer}
@@ -21,10 +22,6 @@ use Rattle.protocol.specs.History.{History}
 use Rattle.protocol.specs.Pair.{Pair}
 use Rattle.protocol.specs.Promise.{Marked, Had}
 use Rattle.promises.proofs.Lists.{Distinct}
-
--- each mark's reading is lawful at its source
-abbrev pub LawfulMarks : List UniqueId → Marking → Type 0
-LawfulMarks us m = (p : ℕ) (u : UniqueId) (r : Bytes) → at us p ≡ some u → m p ≡ some r → lawful_reading u.identifier r ≡ true
 
 -- each source's reading is lawful
 abbrev pub LawfulReadings : Sources → Type 0

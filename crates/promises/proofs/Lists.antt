@@ -1,6 +1,7 @@
 -- What is found in merged lists of occurrences. Assumes nothing.
-use Rattle.std.proofs.Common.{◌≡◌, ℕ, zero, suc, Bool, true, false, cond, ◌⊎◌, List, [], ◌∷◌, Some as some, None as none, Option, sym, refl, ap, ◌∙◌, inl, inr, arith}
+use Rattle.std.proofs.Common.{◌≡◌, ℕ, zero, suc, Bool, true, false, cond, ◌⊎◌, List, [], ◌∷◌, Some as some, None as none, Option, sym, refl, ap, ◌∙◌, inl, inr}
 use mathlib.Core.Bool.{false≢true}
+use Rattle.std.proofs.lemmas.Option.{none-some, same_Some}
 use Rattle.event.specs.declared.id.UniqueId.{UniqueId}
 use Rattle.event.specs.Bytes.{Bytes}
 use Rattle.event.specs.Sources.{Occurrence, occurrence, same_id}
@@ -11,11 +12,8 @@ use Rattle.protocol.specs.Book.{find, enter, merge}
 
 -- OPTIONS AND TESTS
 
-pub some_is : {A : Type 0} (a b : A) → some a ≡ some b → a ≡ b
-some_is a b e = cc
-
 pub never : {A : Type 0} {B : Type 0} (a : A) → none ≡ some a → B
-never a e = absurd (let z : ◌≡◌ {A = ℕ} 0 1 = cc in omega arith)
+never a e = absurd (none-some a e)
 
 -- UNIQUE IDS
 
@@ -69,7 +67,7 @@ find-merge u es (o ∷ os) = find-merge u (enter o es) os ∙ ap (or_else (last 
 -- LISTS TAKEN FROM THE BOARD
 
 -- the marked sources, by marks that are counted from the first of them
-unfoldable pub along : List UniqueId → Marking → List Occurrence
+unfoldable along : List UniqueId → Marking → List Occurrence
 along [] m = []
 along (u ∷ us) m = listed u (m zero) (along us (λ p. m (suc p)))
 
@@ -79,7 +77,7 @@ shifted k [] m = refl
 shifted k (u ∷ us) m = ap (listed u (m (suc k))) (shifted (suc k) us m)
 
 -- the list of a board is that
-pub along_is : (us : List UniqueId) (m : Marking) → occurrences us m ≡ along us m
+along_is : (us : List UniqueId) (m : Marking) → occurrences us m ≡ along us m
 unfolding listed_from along
 along_is [] m = refl
 along_is (u ∷ us) m = ap (listed u (m zero)) (shifted zero us m ∙ along_is us (λ p. m (suc p)))
@@ -126,7 +124,7 @@ last_found : (us : List UniqueId) (m : Marking) (u : UniqueId) (r : Bytes) (p : 
 unfolding Found at along
 last_found [] m u r p a e = never u a
 last_found (v ∷ us) m u r zero a e =
-    let is : v ≡ u = some_is v u a in
+    let is : v ≡ u = same_Some v u a in
     rw (e, is) (found_here u r (along us (λ p. m (suc p))) _ refl)
 last_found (v ∷ us) m u r (suc p) a e = found-later v (m zero) u _ (last_found us (λ p. m (suc p)) u r p a e)
 
@@ -180,7 +178,7 @@ module _ (us : List UniqueId) (distinct : Distinct us) (m : Marking) (es : List 
   unfolding Found or_else
   merge-held r e =
       let f = last_found us m u r p here e in
-      let k : f.0 ≡ r = some_is f.0 r (sym (last-at f.0 f.1) ∙ e) in
+      let k : f.0 ≡ r = same_Some f.0 r (sym (last-at f.0 f.1) ∙ e) in
       found_merged us m es u ∙ ap (λ l. or_else l (find u es)) f.1 ∙ ap {B = Option Bytes} some k
 
   -- of the source at a place: the mark there, or without one what stood there before

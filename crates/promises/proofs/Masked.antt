@@ -1,27 +1,17 @@
 -- Event messages that differ in the generation alone have the same length, and are the same when masked. Assumes nothing.
-use Rattle.std.proofs.Common.{◌≡◌, ℕ, ◌+◌, ◌-◌, ◌%◌, ◌<◌, ◌++◌, length, set, sym, refl, ap, ◌∙◌, ap₂, arith}
-use Rattle.std.proofs.lemmas.List.{take_at, length-append}
-use Rattle.crc.specs.Crc.{crc32c}
-use Rattle.event.specs.Bytes.{Bytes, byte, le32}
+use Rattle.std.proofs.Common.{◌≡◌, ℕ, ◌+◌, ◌%◌, ◌<◌, ◌++◌, length, set, sym, refl, ap, ◌∙◌, ap₂, arith}
+use Rattle.event.specs.Bytes.{Bytes, byte}
 use Rattle.list.specs.Lists.{Told, these, overflow, list_bytes}
 use Rattle.wire.specs.Checks.{checked, unchecked}
 use Rattle.wire.specs.Messages.{event_head, event_message}
+use Rattle.wire.proofs.Buffers.{length-checked}
+use Rattle.wire.proofs.Frames.{unchecked_of}
 use Rattle.protocol.specs.Endpoint.{transmission}
 use Rattle.protocol.specs.Masking.{masked}
 
 -- all of an event message but its check word
 abbrev headed : (t : ℕ) → Told → Bytes
 headed t T = event_head ++ list_bytes t T
-
-length-checked : (bytes : Bytes) → length (checked bytes) ≡ length bytes + 4
-unfolding checked
-length-checked bytes = length-append bytes (le32 (crc32c bytes))
-
-unchecked-checked : (bytes : Bytes) → unchecked (checked bytes) ≡ bytes
-unfolding checked unchecked
-unchecked-checked bytes =
-    let is : length (bytes ++ le32 (crc32c bytes)) ≡ length bytes + 4 = length-append bytes (le32 (crc32c bytes)) in
-    take_at bytes (le32 (crc32c bytes)) (length (bytes ++ le32 (crc32c bytes)) - 4) (omega arith)
 
 transmitted : (t : ℕ) (T : Told) → byte (event_message t T) 10 ≡ t
 unfolding event_message checked list_bytes
@@ -39,7 +29,7 @@ masked-is t T = refl
 
 before_check : (t : ℕ) (T : Told) → unchecked (event_message t T) ≡ headed t T
 unfolding event_message
-before_check t T = unchecked-checked (headed t T)
+before_check t T = unchecked_of (headed t T)
 
 low_bits : (g n b : ℕ) → n < 8 → b ≡ transmission g n → b % 8 ≡ n
 low_bits g n b few e = omega arith

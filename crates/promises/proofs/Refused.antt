@@ -1,5 +1,6 @@
 -- What a refusal leaves. Assumes nothing.
 use Rattle.std.proofs.Common.{◌≡◌, ℕ, Bool, true, false, cond, not, ◌&&◌, eqb, leb, List, [], ◌∷◌, length, Some as some, None as none, Ok, Err, Option, Result, sym, refl, ap, ◌∙◌, subst, arith}
+use Rattle.std.proofs.lemmas.Option.{same_Some}
 use Rattle.std.proofs.lemmas.Bool.{and_parts, not-true}
 use Rattle.event.specs.declared.id.UniqueId.{UniqueId}
 use Rattle.event.specs.declared.refusal.Refusal.{Refusal}
@@ -32,7 +33,7 @@ use Rattle.protocol.specs.Book.{blind, BookTurn, book_turn, awaits, sync_questio
 use Rattle.protocol.specs.Pair.{Pair, pair_of, Step, changes, ticks, link_goes_up, link_goes_down, loses, writes_sync, writes_ack, requests, answers, gives_up, picks_up, fetches, shows, resets, acted, noted, rested, lies}
 use Rattle.protocol.specs.Refused.{message_bytes, Leaves, RefusalsLeave}
 use Rattle.promises.proofs.Boards.{set_unlawful, set_past}
-use Rattle.promises.proofs.Lists.{some_is, never}
+use Rattle.promises.proofs.Lists.{never}
 use Rattle.promises.proofs.Steps.{handle_says}
 use Rattle.promises.proofs.Ticks.{timed_way}
 
@@ -59,7 +60,7 @@ first_quiet (q ∷ qs) ok r e = go q.holds e (first_quiet qs (and_parts (quiet q
   where
     go : (v : Bool) → cond v (first_no qs) (some q.otherwise) ≡ some r → (first_no qs ≡ some r → quiet r ≡ true) → quiet r ≡ true
     go true e rest = rest e
-    go false e rest = ap quiet (sym (some_is q.otherwise r e)) ∙ (and_parts (quiet q.otherwise) (all_quiet qs) ok).0
+    go false e rest = ap quiet (sym (same_Some q.otherwise r e)) ∙ (and_parts (quiet q.otherwise) (all_quiet qs) ok).0
 
 -- a step that leaves the pair and is refused with r'
 leaves : (p : Pair) (s : Step) (r' r : Refusal) → s.pair ≡ p → s.outcome ≡ refusal r' → quiet r' ≡ true → s.outcome.result ≡ Err r → Leaves p s r
@@ -172,7 +173,7 @@ request_quiet room bytes r e = go (leb 4115 room) e
   where
     go : (v : Bool) → cond v (first_no (request_questions bytes)) (some AnswerBufferShort) ≡ some r → quiet r ≡ true
     go true e = first_quiet (request_questions bytes) refl r e
-    go false e = ap quiet (sym (some_is AnswerBufferShort r e))
+    go false e = ap quiet (sym (same_Some AnswerBufferShort r e))
 
 pub refusals-leave : RefusalsLeave
 refusals-leave p (changes place x) r e = change-leaves p (at (ids p.board) place) place x refl r e

@@ -1,5 +1,6 @@
 -- An accepted request: what its answer will teach the book. Assumes nothing.
 use Rattle.std.proofs.Common.{◌≡◌, ℕ, Bool, true, false, cond, ◌⊎◌, List, [], ◌∷◌, Some as some, None as none, Option, sym, refl, ap, ◌∙◌, subst, inl, inr, true≢false}
+use Rattle.std.proofs.lemmas.Option.{same_Some}
 use mathlib.Core.Bool.{false≢true}
 use Rattle.event.specs.declared.id.UniqueId.{UniqueId}
 use Rattle.event.specs.Bytes.{Bytes, byte}
@@ -8,6 +9,7 @@ use Rattle.event.specs.Outcomes.{Outcome}
 use Rattle.event.specs.Sources.{Occurrence, occurrence}
 use Rattle.board.specs.Boards.{Sources, ids, at}
 use Rattle.list.specs.Lists.{Told, these, overflow, told, over}
+use Rattle.marks.specs.Lawful.{LawfulMarks}
 use Rattle.marks.specs.Marking.{Marking, unmarked, occurrences}
 use Rattle.wire.specs.declared.types.Kind.{Kind}
 use Rattle.wire.specs.declared.types.Kind.TheVariants.{Sync as sync, Ack as ack}
@@ -22,9 +24,9 @@ use Rattle.protocol.specs.Endpoint.{Endpoint, in_state, turn, present_of, presen
 use Rattle.protocol.specs.History.{begins}
 use Rattle.protocol.specs.Promise.{Marked, Had}
 use Rattle.board.proofs.Rereads.{at-ids}
-use Rattle.promises.proofs.Lists.{some_is, never, At, find_source, merge_source, merge-at}
+use Rattle.promises.proofs.Lists.{never, At, find_source, merge_source, merge-at}
 use Rattle.promises.proofs.Words.{none_in}
-use Rattle.promises.proofs.Invariant.{LawfulReadings, LawfulMarks, Laws, Now, Right, Quiet, Shows, Held, Knows, Sound, Says, Learned}
+use Rattle.promises.proofs.Invariant.{LawfulReadings, Laws, Now, Right, Quiet, Shows, Held, Knows, Sound, Says, Learned}
 
 -- THE PRESENT READINGS
 
@@ -34,7 +36,7 @@ unfolding present
 present-is us b same enabled q u r a e = go (at b q) refl e
   where
     here : (s : Occurrence) → at b q ≡ some s → s.id ≡ u
-    here s is = some_is s.id u (sym (at-ids b q s is) ∙ ap (λ vs. at vs q) same ∙ a)
+    here s is = same_Some s.id u (sym (at-ids b q s is) ∙ ap (λ vs. at vs q) same ∙ a)
 
     go : (o : Option Occurrence) → at b q ≡ o → present_of enabled o ≡ some r → Now b q u r
     go none is e = never r e
@@ -43,7 +45,7 @@ present-is us b same enabled q u r a e = go (at b q) refl e
         on : (v : Bool) → cond v (some s.reading) none ≡ some r → Now b q u r
         on true x =
             let i = here s is in
-            let j = some_is s.reading r x in
+            let j = same_Some s.reading r x in
             is ∙ (λ t. some (occurrence (i t) (j t)))
         on false x = never r x
 
@@ -82,7 +84,7 @@ module _ (us : List UniqueId) (laws : Laws us) where
   read_back : (slot : Bool) (m : Marking) → LawfulMarks us m → (os : List Occurrence) → Says (answer_message slot (told (occurrences us m))) os →
       (over (occurrences us m) ≡ false) × (occurrences us m ≡ os)
   unfolding is_overflow these_of
-  read_back slot m ok os e = go (over (occurrences us m)) refl (ap (λ (a : Answer). a.told) (some_is _ _ (sym (laws.answers slot m ok) ∙ e.1)))
+  read_back slot m ok os e = go (over (occurrences us m)) refl (ap (λ (a : Answer). a.told) (same_Some _ _ (sym (laws.answers slot m ok) ∙ e.1)))
     where
       go : (test : Bool) → over (occurrences us m) ≡ test → told (occurrences us m) ≡ these os → (over (occurrences us m) ≡ false) × (occurrences us m ≡ os)
       go true is x = absurd (true≢false (ap is_overflow (sym (ap {B = Told} (λ v. cond v overflow (these (occurrences us m))) is) ∙ x)))
@@ -123,7 +125,7 @@ module _ (us : List UniqueId) (laws : Laws us) where
             Now b q u r ⊎ (Marked prior q ⊎ Marked since q) → Now b q u r
         old q u r a on clear f (inl y) = y
         old q u r a on clear f (inr (inl y)) =
-            ok.prior_now q u y.0 a on y.1 clear ∙ ap {B = Option Occurrence} (λ s. some (occurrence u s)) (some_is y.0 r (sym (held q u y.0 a y.1) ∙ f))
+            ok.prior_now q u y.0 a on y.1 clear ∙ ap {B = Option Occurrence} (λ s. some (occurrence u s)) (same_Some y.0 r (sym (held q u y.0 a y.1) ∙ f))
         old q u r a on clear f (inr (inr y)) = never y.0 (sym clear ∙ y.1)
 
         now : (q : ℕ) (u : UniqueId) (r : Bytes) → at us q ≡ some u → has enabled u.identifier ≡ true →

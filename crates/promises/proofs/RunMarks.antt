@@ -1,5 +1,6 @@
 -- The marks after every run are those of the latest changes. Assumes nothing.
 use Rattle.std.proofs.Common.{◌≡◌, ℕ, Bool, true, false, cond, not, ◌&&◌, eqb, ◌⊎◌, List, [], ◌∷◌, ◌++◌, Some as some, None as none, Option, sym, refl, ap, ◌∙◌, subst, inl, inr}
+use Rattle.std.proofs.lemmas.Option.{same_Some}
 use mathlib.Core.Bool.{false≢true}
 use Rattle.std.proofs.lemmas.Bool.{eqb-true, and_parts}
 use Rattle.event.specs.declared.id.UniqueId.{UniqueId}
@@ -38,7 +39,7 @@ use Rattle.protocol.specs.Pair.{
   run,
 }
 use Rattle.protocol.specs.Runs.{is_armed, has_sent, starts_over_by, starts_over_if, starts_over, counts, changes_at, Unchanged, Latest, MarksLatest}
-use Rattle.promises.proofs.Lists.{some_is, never}
+use Rattle.promises.proofs.Lists.{never}
 use Rattle.promises.proofs.Ticks.{tick_way}
 
 -- ONE OF THE TWO LISTS OF MARKS
@@ -177,7 +178,7 @@ step_part false place p resets = refl
 is-change : (place : ℕ) (p : Pair) (c : Call) (r : Bytes) → changes_at place c p ≡ true → given_by c ≡ some r → c ≡ changes place r
 is-change place p (changes q s) r x e =
     let same : place ≡ q = eqb-true place q (and_parts (counts (at (ids p.board) q) s p.endpoint) (eqb place q) x).1 in
-    let is : s ≡ r = some_is s r e in
+    let is : s ≡ r = same_Some s r e in
     λ i. changes (sym same i) (is i)
 is-change place p (ticks room) r x e = absurd (false≢true x)
 is-change place p link_goes_up r x e = absurd (false≢true x)
@@ -195,7 +196,7 @@ is-change place p resets r x e = absurd (false≢true x)
 
 -- WHOLE RUNS
 
-run-append : (p : Pair) (xs ys : List Call) → run p (xs ++ ys) ≡ run (run p xs) ys
+pub run-append : (p : Pair) (xs ys : List Call) → run p (xs ++ ys) ≡ run (run p xs) ys
 run-append p [] ys = refl
 run-append p (x ∷ xs) ys = run-append (step p x).pair xs ys
 

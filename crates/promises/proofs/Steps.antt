@@ -1,5 +1,6 @@
 -- Every call keeps the invariant, and the invariant says that the book is right. Assumes nothing.
 use Rattle.std.proofs.Common.{◌≡◌, ℕ, Bool, true, false, cond, leb, ◌⊎◌, List, [], ◌∷◌, length, Some as some, None as none, Ok, Option, sym, refl, ap, ◌∙◌, subst, inl, inr, arith}
+use Rattle.std.proofs.lemmas.Option.{same_Some}
 use lib.Dec.{eqb-suc-zero}
 use Rattle.event.specs.declared.id.UniqueId.{UniqueId}
 use Rattle.event.specs.declared.refusal.Refusal.{Refusal}
@@ -18,6 +19,7 @@ use Rattle.wire.specs.declared.types.Kind.TheVariants.{Sync as sync, Ack as ack}
 use Rattle.wire.specs.Checks.{checked}
 use Rattle.wire.specs.Messages.{Event, read_event, Answer, read_answer}
 use Rattle.wire.specs.Requests.{kind_of, Request, Sync, Ack, request_of, request_message}
+use Rattle.wire.proofs.RequestsBack.{kind_of_none}
 use Rattle.carrier.specs.Carriers.{Message, Line, linked_up, linked_down, withdrawn}
 use Rattle.protocol.specs.declared.types.State.{State}
 use Rattle.protocol.specs.declared.types.State.TheVariants.{Off, Armed, Sending, Failed}
@@ -53,7 +55,7 @@ use Rattle.protocol.specs.History.{History, new_history, while_waiting, later, c
 use Rattle.protocol.specs.Promise.{Fair, Given, Marked, Had, PresentOrMarked, WasSo}
 use Rattle.board.proofs.Rereads.{at-ids}
 use Rattle.promises.proofs.Boards.{set_taken, set_unlawful, set_past}
-use Rattle.promises.proofs.Lists.{some_is, never, At, merge_source, merge-held, merge-at}
+use Rattle.promises.proofs.Lists.{never, At, merge_source, merge-held, merge-at}
 use Rattle.promises.proofs.Words.{none_in}
 use Rattle.promises.proofs.Invariant.{LawfulReadings, Laws, Now, Shows, OwnOne, Own, NotArmed, Knows, Sound, Learned, Awaiting, Inv}
 use Rattle.promises.proofs.EndpointKeeps.{Kept, shows_more, stays, tick_keeps, reset_keeps}
@@ -174,7 +176,7 @@ module _ (us : List UniqueId) (laws : Laws us) (e : Endpoint) (b : Sources) (ok 
       own_read (Armed age) m v own is = absurd own
       own_read Failed m v own is = absurd own
       own_read (Sending attempt waited) m v own is =
-          (tt, ap (λ (x : Event). x.told) (some_is _ _ (sym is ∙ ap read_event own.2 ∙ laws.events e.generation own.0 e.prior own.1 ok.0.prior-lawful)))
+          (tt, ap (λ (x : Event). x.told) (same_Some _ _ (sym is ∙ ap read_event own.2 ∙ laws.events e.generation own.0 e.prior own.1 ok.0.prior-lawful)))
 
       event-shows : Shows us d es e.enabled e.prior e.since b → Shows us (b ∷ d) (merge es (occurrences us e.prior)) e.enabled e.prior e.since b
       event-shows x = record {
@@ -254,10 +256,6 @@ sync_kind s room delay retry [] e = go (leb 217 room) (awaits_nothing s) e
     go false w e = never RequestBufferShort (sym e)
 sync_kind s room delay retry (i ∷ is) e = ap (λ v. cond v ack sync) (eqb-suc-zero (length is))
 
-ack_kind : kind_of (request_message 0 0 []) ≡ ack
-unfolding kind_of request_message checked
-ack_kind = refl
-
 -- ACCEPTED REQUESTS
 
 pub handle_says : (sender : ℕ) (q : Request) (b : Sources) (c : Line) (e : Endpoint) → (handle sender q b c e).outcome ≡ done (reply q b e)
@@ -318,7 +316,7 @@ module _ (p : Pair) (h : History) (laws : Laws (ids p.board)) (x : Inv (ids p.bo
       let t = writes o sync (request_message delay retry items) p.book in Leaves (noted t p).pair (written_after t)
   unfolding Leaves written_after
   sync-written items delay retry room none is =
-      (x.0, tt, λ bytes e. ap kind_of (sym (some_is _ bytes e)) ∙ sync_kind p.book.phase room delay retry items is)
+      (x.0, tt, λ bytes e. ap kind_of (sym (same_Some _ bytes e)) ∙ sync_kind p.book.phase room delay retry items is)
   sync-written items delay retry room (some r) is = rested_keeps (ids p.board) p h x
 
   ack-written : (room : ℕ) (o : Option Refusal) → first_no (ack_questions p.book.phase room) ≡ o →
@@ -327,7 +325,7 @@ module _ (p : Pair) (h : History) (laws : Laws (ids p.board)) (x : Inv (ids p.bo
   ack-written room none is =
       let y : Learned (ids p.board) Holding h.answer h.accepted h.completed p.book.entries p.endpoint p.board p.line.message =
       subst (λ s. Learned (ids p.board) s h.answer h.accepted h.completed p.book.entries p.endpoint p.board p.line.message) (holding p.book.phase room is) x.1 in
-      (x.0, (more (ids p.board) laws p.endpoint p.board x.0 h.completed p.book.entries p.line.message y.0, y.1), λ bytes e. ap kind_of (sym (some_is _ bytes e)) ∙ ack_kind)
+      (x.0, (more (ids p.board) laws p.endpoint p.board x.0 h.completed p.book.entries p.line.message y.0, y.1), λ bytes e. ap kind_of (sym (same_Some _ bytes e)) ∙ kind_of_none)
   ack-written room (some r) is = rested_keeps (ids p.board) p h x
 
   -- the history that a request adds to
@@ -430,7 +428,7 @@ module _ (vs : List UniqueId) (p : Pair) (h : History) (x : Inv vs p h) where
     where
       go : Now p.board place source.id r ⊎ (Marked p.endpoint.prior place ⊎ Marked p.endpoint.since place) →
           (r ≡ source.reading) ⊎ (Marked p.endpoint.prior place ⊎ Marked p.endpoint.since place)
-      go (inl now) = inl (ap (λ (s : Occurrence). s.reading) (some_is (occurrence source.id r) source (sym now ∙ here)))
+      go (inl now) = inl (ap (λ (s : Occurrence). s.reading) (same_Some (occurrence source.id r) source (sym now ∙ here)))
       go (inr marks) = inr marks
 
   pub shows_what_was : WasSo p h

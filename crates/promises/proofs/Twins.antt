@@ -12,6 +12,7 @@ use Rattle.event.specs.Refusals.{first_no}
 use Rattle.event.specs.Sources.{Occurrence, lawful_reading}
 use Rattle.board.specs.Boards.{Sources, ids, at, after_set}
 use Rattle.list.specs.Lists.{Told, these, overflow, told, over}
+use Rattle.marks.specs.Lawful.{LawfulMarks}
 use Rattle.marks.specs.Marking.{Marking, unmarked, occurrences}
 use Rattle.wire.specs.declared.types.Kind.{Kind}
 use Rattle.wire.specs.declared.types.Kind.TheVariants.{Sync as sync, Ack as ack}
@@ -103,7 +104,7 @@ use Rattle.protocol.specs.Pair.{
 use Rattle.protocol.specs.Masking.{masked_outcome, compared_of, compared}
 use Rattle.board.proofs.Rereads.{ids-after}
 use Rattle.promises.proofs.Lists.{never}
-use Rattle.promises.proofs.Invariant.{LawfulMarks, Laws}
+use Rattle.promises.proofs.Invariant.{Laws}
 use Rattle.promises.proofs.ChangeKeeps.{marks-lawful}
 use Rattle.promises.proofs.Masked.{same_length, same_masked}
 

@@ -1,4 +1,5 @@
 //! The states of the two ends.
+use std::fmt;
 use wire::types::Kind;
 
 /// What the endpoint is doing.
@@ -12,6 +13,19 @@ pub enum State {
     Sending { attempt: u8, waited: u16 },
     /// The attempts are over.
     Failed,
+}
+
+/// A state is shown by one word.
+impl fmt::Display for State {
+    fn fmt<W: fmt::Write>(&self, f: &mut fmt::Formatter<W>) -> fmt::Result {
+        let word = match self {
+            State::Off => "off",
+            State::Armed { .. } => "armed",
+            State::Sending { .. } => "sending",
+            State::Failed => "failed",
+        };
+        write!(f, "{word}")
+    }
 }
 
 /// What the book knows.

@@ -1,3 +1,5 @@
 pub mod Actions
+pub mod Commands
 pub mod Items
 pub mod Rooms
+pub mod Said

@@ -1,31 +1,51 @@
 -- The buffers that calls work in. Assumes nothing.
-use Rattle.std.specs.Prelude.{ℕ, Some, None, Ok, Err, Option, Result}
+use Rattle.std.specs.Prelude.{ℕ, ◌-◌, cond, ◌&&◌, List, [], length, take, slice_index_or, nat_lt, Some, None, Ok, Err, Option, Result, codes}
 use Rattle.std.specs.Option.{unwrap_or}
+use Rattle.std.specs.Borrow.{Bor}
+use Rattle.std.specs.Str.{bytes_eq}
+use Rattle.event.specs.Bytes.{Bytes}
 use Rattle.script.specs.declared.command.Action.{Action}
-use Rattle.script.specs.declared.command.Action.TheVariants.{Change, Tick, Up, Down, Lose, Reset, Sync, Ack, Hand, Take, GiveUp, PickUp, Fetch, Show, Packets}
+use Rattle.script.specs.declared.command.Action.TheVariants.{Tick, Ack, PickUp, Fetch, Show}
 use Rattle.syntax.specs.declared.fault.Fault.{Fault}
 use Rattle.syntax.specs.declared.fault.Fault.TheVariants.{NoRoom}
+use Rattle.syntax.specs.Lines.{texts}
+use Rattle.syntax.specs.Numbers.{usize_max, number_of}
+use Rattle.script.specs.Said.{SaidAction, said_change, said_sync, said_hand, said_take, said_other, action_said, ◌>>=◌}
+
+-- the length of the buffer that an action with no vector asks for
+abbrev pub asked_plain : Action → Option ℕ
+asked_plain (Tick count) = Some 4111
+asked_plain Ack = Some 217
+asked_plain PickUp = Some 4224
+asked_plain Fetch = Some 4224
+asked_plain (Show id) = Some 64
+asked_plain other = None
 
 -- the length of the buffer that a call asks for; none if it works in no buffer
+abbrev pub asked_for : SaidAction → Option ℕ
+asked_for (said_change place reading) = None
+asked_for (said_sync delay retry items) = Some 217
+asked_for (said_hand sender message) = Some 4115
+asked_for (said_take message) = None
+asked_for (said_other action) = asked_plain action
+
+-- the same of an action with vectors
 abbrev pub asked_by : Action → Option ℕ
-asked_by (Change place reading) = None
-asked_by (Tick count) = Some 4111
-asked_by Up = None
-asked_by Down = None
-asked_by Lose = None
-asked_by Reset = None
-asked_by (Sync delay retry items) = Some 217
-asked_by Ack = Some 217
-asked_by (Hand sender message) = Some 4115
-asked_by (Take message) = None
-asked_by GiveUp = None
-asked_by PickUp = Some 4224
-asked_by Fetch = Some 4224
-asked_by (Show id) = Some 64
-asked_by Packets = None
+asked_by action = asked_for (action_said action)
 
 -- the length of the buffer that is lent: what the script says, or else what the call asks for; a call that works in no buffer takes none
 abbrev pub room_for : (asked said : Option ℕ) → Result ℕ Fault
 room_for (Some length) said = Ok (unwrap_or said length)
 room_for None None = Ok 0
 room_for None (Some length) = Err NoRoom
+
+-- the words of a call before its room, and the room: three words or more may end in `room` and a length
+abbrev pub roomed : List Bytes → Result (List Bytes × Option ℕ) Fault
+roomed words =
+    cond (nat_lt 2 (length words) && bytes_eq (slice_index_or words (length words - 2) []) (codes "room"))
+    (number_of 10 usize_max (slice_index_or words (length words - 1) []) >>= (λ room. Ok (take (length words - 2) words, Some room)))
+    (Ok (words, None))
+
+-- words and a room, as the bytes that they are
+abbrev pub room_said : Bor (List (Bor Bytes)) × Option ℕ → List Bytes × Option ℕ
+room_said said = (texts said.0.now, said.1)

@@ -1,15 +1,18 @@
-//! The words of a call are turned into an action.
-ghost use Rattle.std.specs.Prelude.{◌≡◌, length};
-ghost use Rattle.script.specs.Actions.{miscount, id_of, tick_of, show_of};
+//! The words of a call are turned into an action. The allocator is a parameter of its own, as in the library's calls.
+ghost use Rattle.std.specs.Prelude.{◌≡◌, length, option_map, vec_items};
+ghost use Rattle.script.specs.Actions.{miscount, id_of, tick_of, show_of, change_of, sync_of, message_of, hand_of, plain_of, alone_of, action_of};
+ghost use Rattle.script.specs.Said.{action_said};
 ghost use Rattle.syntax.specs.Lines.{texts};
+ghost use Rattle.syntax.specs.Strings.{GivesAs};
 
 use crate::command::Action;
 use crate::items::items;
+use event::delay::{Delays, Seconds, Tenths};
 use event::id::UniqueId;
 use std::alloc::Global;
 use syntax::bytes::bytes;
 use syntax::fault::Fault;
-use syntax::number::{decimal, decimal_byte, hex_byte, hex_long};
+use syntax::number::{decimal, decimal_at_most, hex};
 
 /// What is wrong with a command that has another number of words than it should.
 pub(crate) fn miscounted(words: &[&[u8]], wanted: usize) -> Fault
@@ -27,19 +30,21 @@ pub(crate) fn unique_id(identifier: &[u8], scope: &[u8], info: &[u8]) -> Result<
     ensures { result ≡ id_of identifier.now scope.now info.now }
 {
     Ok(UniqueId {
-        identifier: hex_byte(identifier)?,
-        scope: hex_byte(scope)?,
-        info: hex_long(info)?,
+        identifier: hex(identifier)?,
+        scope: hex(scope)?,
+        info: hex(info)?,
     })
 }
 
 // A change: place, reading.
-fn change(heap: Global, words: &[&[u8]]) -> Result<Action, Fault> {
+fn change(heap: Global, words: &[&[u8]]) -> Result<Action, Fault>
+    ensures { GivesAs action_said result (change_of (texts words.now)) }
+{
     let [place, reading] = words else {
         return Err(miscounted(words, 2));
     };
     Ok(Action::Change {
-        place: decimal(usize::MAX, place)?,
+        place: decimal(place)?,
         reading: bytes(heap, reading)?,
     })
 }
@@ -51,26 +56,32 @@ fn tick(words: &[&[u8]]) -> Result<Action, Fault>
     match words {
         [] => Ok(Action::Tick { count: 1 }),
         [count] => Ok(Action::Tick {
-            count: decimal(1_000_000, count)?,
+            count: decimal_at_most(1_000_000, count)?,
         }),
         _ => Err(Fault::WordTooMany),
     }
 }
 
 // A sync: delay, retry delay, items.
-fn sync(heap: Global, words: &[&[u8]]) -> Result<Action, Fault> {
+fn sync(heap: Global, words: &[&[u8]]) -> Result<Action, Fault>
+    ensures { GivesAs action_said result (sync_of (texts words.now)) }
+{
     let [delay, retry, list] = words else {
         return Err(miscounted(words, 3));
     };
     Ok(Action::Sync {
-        delay: decimal_byte(delay)?,
-        retry: decimal_byte(retry)?,
+        delays: Delays {
+            first: Seconds(decimal(delay)?),
+            retry: Tenths(decimal(retry)?),
+        },
         items: items(heap, list)?,
     })
 }
 
 // A message, if there is one.
-fn message(heap: Global, words: &[&[u8]]) -> Result<Option<Vec<u8>>, Fault> {
+fn message(heap: Global, words: &[&[u8]]) -> Result<Option<Vec<u8>>, Fault>
+    ensures { GivesAs (option_map vec_items) result (message_of (texts words.now)) }
+{
     match words {
         [] => Ok(None),
         [message] => Ok(Some(bytes(heap, message)?)),
@@ -79,12 +90,14 @@ fn message(heap: Global, words: &[&[u8]]) -> Result<Option<Vec<u8>>, Fault> {
 }
 
 // A message handed to the endpoint: sender, message.
-fn hand(heap: Global, words: &[&[u8]]) -> Result<Action, Fault> {
+fn hand(heap: Global, words: &[&[u8]]) -> Result<Action, Fault>
+    ensures { GivesAs action_said result (hand_of (texts words.now)) }
+{
     let [sender, rest @ ..] = words else {
         return Err(Fault::WordMissing);
     };
     Ok(Action::Hand {
-        sender: hex_byte(sender)?,
+        sender: hex(sender)?,
         message: message(heap, rest)?,
     })
 }
@@ -102,7 +115,9 @@ fn show(words: &[&[u8]]) -> Result<Action, Fault>
 }
 
 // A call of one word.
-fn plain(name: &[u8]) -> Result<Action, Fault> {
+fn plain(name: &[u8]) -> Result<Action, Fault>
+    ensures { result ≡ plain_of name.now }
+{
     match name {
         b"up" => Ok(Action::Up),
         b"down" => Ok(Action::Down),
@@ -117,8 +132,21 @@ fn plain(name: &[u8]) -> Result<Action, Fault> {
     }
 }
 
+// A call that has no words after its name.
+fn alone(name: &[u8], words: &[&[u8]]) -> Result<Action, Fault>
+    ensures { GivesAs action_said result (alone_of name.now (texts words.now)) }
+{
+    let action = plain(name)?;
+    match words {
+        [] => Ok(action),
+        _ => Err(Fault::WordTooMany),
+    }
+}
+
 /// The action of a call: its name, and the words after it.
-pub(crate) fn action(heap: Global, name: &[u8], words: &[&[u8]]) -> Result<Action, Fault> {
+pub(crate) fn action(heap: Global, name: &[u8], words: &[&[u8]]) -> Result<Action, Fault>
+    ensures { GivesAs action_said result (action_of name.now (texts words.now)) }
+{
     match name {
         b"change" => change(heap, words),
         b"tick" => tick(words),
@@ -128,12 +156,6 @@ pub(crate) fn action(heap: Global, name: &[u8], words: &[&[u8]]) -> Result<Actio
             message: message(heap, words)?,
         }),
         b"show" => show(words),
-        _ => {
-            let action = plain(name)?;
-            if !words.is_empty() {
-                return Err(Fault::WordTooMany);
-            }
-            Ok(action)
-        }
+        _ => alone(name, words),
     }
 }

@@ -1,4 +1,5 @@
 //! What a script says, line by line.
+use event::delay::Delays;
 use event::id::UniqueId;
 use wire::types::Item;
 
@@ -52,10 +53,9 @@ pub enum Action {
     Lose,
     /// The endpoint is reset.
     Reset,
-    /// The book writes a sync, with the delay in seconds and the retry delay in tenths of a second.
+    /// The book writes a sync.
     Sync {
-        delay: u8,
-        retry: u8,
+        delays: Delays,
         items: Vec<Item>,
     },
     /// The book writes an ack.

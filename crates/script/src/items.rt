@@ -6,7 +6,7 @@ ghost use Rattle.script.specs.Items.{item_of, items_from, items_of};
 use std::alloc::Global;
 use syntax::bytes::is_dash;
 use syntax::fault::Fault;
-use syntax::number::hex_byte;
+use syntax::number::hex;
 use wire::types::Item;
 
 // The item that a piece of a word says: an identifier, and `+` for on or `-` for off.
@@ -21,10 +21,8 @@ fn item(piece: &[u8]) -> Result<Item, Fault>
         b'-' => false,
         _ => return Err(Fault::NoSwitch),
     };
-    match hex_byte(digits) {
-        Ok(identifier) => Ok(Item { identifier, on }),
-        Err(fault) => Err(fault),
-    }
+    let identifier = hex(digits)?;
+    Ok(Item { identifier, on })
 }
 
 // The items of a word, with commas between them.
@@ -32,14 +30,9 @@ fn listed(heap: Global, word: &[u8]) -> Result<Vec<Item>, Fault>
     ensures { Gives result (items_from [] word.now) }
 {
     let mut items = Vec::new(heap);
-    let mut start = 0;
-    for (i, byte) in word.iter().enumerate() {
-        if *byte == b',' {
-            items.push(item(&word[start..i])?)?;
-            start = i + 1;
-        }
+    for piece in word.split(|byte| *byte == b',') {
+        items.push(item(piece)?)?;
     }
-    items.push(item(&word[start..])?)?;
     Ok(items)
 }
 

@@ -1,5 +1,10 @@
 //! A line is turned into a command.
-ghost use Rattle.std.specs.Prelude.{◌≤◌, length, IfOk};
+ghost use Rattle.std.specs.Prelude.{◌≡◌, option_map, vec_items};
+ghost use Rattle.syntax.specs.Lines.{uncommented, words_of, texts};
+ghost use Rattle.syntax.specs.Strings.{GivesAs};
+ghost use Rattle.script.specs.Said.{action_said, command_said};
+ghost use Rattle.script.specs.Rooms.{roomed, room_said};
+ghost use Rattle.script.specs.Commands.{text_of, call_of, drive_of, board_of, row_of, smbus_of, carrier_of, command_of, line_of};
 
 use crate::action::{action, miscounted, unique_id};
 use crate::command::{Action, Command};
@@ -7,25 +12,38 @@ use crate::room::room;
 use std::alloc::Global;
 use syntax::bytes::bytes;
 use syntax::fault::Fault;
-use syntax::number::{decimal, hex_byte, hex_short};
+use syntax::number::{decimal, hex};
 use syntax::words::{joined, words};
 
+// The drive board: its controller ID.
+fn drive(words: &[&[u8]]) -> Result<Command, Fault>
+    ensures { result ≡ drive_of (texts words.now) }
+{
+    let [id] = words else {
+        return Err(miscounted(words, 1));
+    };
+    Ok(Command::DriveBoard {
+        controller: hex(id)?,
+    })
+}
+
 // A board: its name, and for the drive board the controller ID.
-fn board(words: &[&[u8]]) -> Result<Command, Fault> {
+fn board(words: &[&[u8]]) -> Result<Command, Fault>
+    ensures { result ≡ board_of (texts words.now) }
+{
     match words {
         [] => Err(Fault::WordMissing),
         [b"table"] => Ok(Command::TableBoard),
         [b"table", ..] => Err(Fault::WordTooMany),
-        [b"drive", id] => Ok(Command::DriveBoard {
-            controller: hex_short(id)?,
-        }),
-        [b"drive", rest @ ..] => Err(miscounted(rest, 1)),
+        [b"drive", rest @ ..] => drive(rest),
         _ => Err(Fault::UnknownWord),
     }
 }
 
 // A row of the table board: unique ID, reading.
-fn row(heap: Global, words: &[&[u8]]) -> Result<Command, Fault> {
+fn row(heap: Global, words: &[&[u8]]) -> Result<Command, Fault>
+    ensures { GivesAs command_said result (row_of (texts words.now)) }
+{
     let [identifier, scope, info, reading] = words else {
         return Err(miscounted(words, 4));
     };
@@ -35,38 +53,47 @@ fn row(heap: Global, words: &[&[u8]]) -> Result<Command, Fault> {
     })
 }
 
+// The SMBus carrier: its two addresses and its endpoint ID.
+fn smbus(words: &[&[u8]]) -> Result<Command, Fault>
+    ensures { result ≡ smbus_of (texts words.now) }
+{
+    let [destination, source, id] = words else {
+        return Err(miscounted(words, 3));
+    };
+    Ok(Command::Smbus {
+        destination: hex(destination)?,
+        source: hex(source)?,
+        id: hex(id)?,
+    })
+}
+
 // A carrier: its name, and for the SMBus carrier the two addresses and the endpoint ID.
-fn carrier(words: &[&[u8]]) -> Result<Command, Fault> {
+fn carrier(words: &[&[u8]]) -> Result<Command, Fault>
+    ensures { result ≡ carrier_of (texts words.now) }
+{
     match words {
         [] => Err(Fault::WordMissing),
         [b"mailbox"] => Ok(Command::Mailbox),
         [b"mailbox", ..] => Err(Fault::WordTooMany),
-        [b"smbus", destination, source, id] => Ok(Command::Smbus {
-            destination: hex_byte(destination)?,
-            source: hex_byte(source)?,
-            id: hex_byte(id)?,
-        }),
-        [b"smbus", rest @ ..] => Err(miscounted(rest, 3)),
+        [b"smbus", rest @ ..] => smbus(rest),
         _ => Err(Fault::UnknownWord),
     }
 }
 
-// How many words of a call come before its room, and the room.
-fn said_room(words: &[&[u8]]) -> Result<(usize, Option<usize>), Fault>
-    ensures { IfOk result (λ said. said.0 ≤ length words.now) }
+// The words of a call before its room, and the room.
+fn said_room<'a>(words: &'a [&'a [u8]]) -> Result<(&'a [&'a [u8]], Option<usize>), Fault>
+    ensures { GivesAs room_said result (roomed (texts words.now)) }
 {
-    let count = words.len();
-    if count < 3 {
-        return Ok((count, None));
-    }
-    match &words[count - 2..] {
-        [b"room", length] => Ok((count - 2, Some(decimal(usize::MAX, length)?))),
-        _ => Ok((count, None)),
+    match words.split_last_chunk::<2>() {
+        Some((call, [b"room", length])) if !call.is_empty() => Ok((call, Some(decimal(length)?))),
+        _ => Ok((words, None)),
     }
 }
 
 // The call as the record repeats it: a tick without its count.
-fn text(heap: Global, action: &Action, words: &[&[u8]]) -> Result<Vec<u8>, Fault> {
+fn text(heap: Global, action: &Action, words: &[&[u8]]) -> Result<Vec<u8>, Fault>
+    ensures { GivesAs vec_items result (Ok (text_of (action_said action.now) (texts words.now))) }
+{
     match action {
         Action::Tick { .. } => Ok(b"tick".to_vec(heap)?),
         _ => joined(heap, words),
@@ -74,9 +101,10 @@ fn text(heap: Global, action: &Action, words: &[&[u8]]) -> Result<Vec<u8>, Fault
 }
 
 // A call, which may end in its room.
-fn call(heap: Global, words: &[&[u8]]) -> Result<Command, Fault> {
-    let (count, said) = said_room(words)?;
-    let words = &words[0..count];
+fn call(heap: Global, words: &[&[u8]]) -> Result<Command, Fault>
+    ensures { GivesAs command_said result (call_of (texts words.now)) }
+{
+    let (words, said) = said_room(words)?;
     let [name, rest @ ..] = words else {
         return Err(Fault::WordMissing);
     };
@@ -86,14 +114,28 @@ fn call(heap: Global, words: &[&[u8]]) -> Result<Command, Fault> {
     Ok(Command::Call { action, text, room })
 }
 
+// The command of words: its name, and the words after it; any other name is that of a call.
+fn command(heap: Global, words: &[&[u8]]) -> Result<Command, Fault>
+    ensures { GivesAs command_said result (command_of (texts words.now)) }
+{
+    let [name, rest @ ..] = words else {
+        return Err(Fault::WordMissing);
+    };
+    match *name {
+        b"board" => board(rest),
+        b"row" => row(heap, rest),
+        b"carrier" => carrier(rest),
+        _ => call(heap, words),
+    }
+}
+
 /// The command of a line; none if it is blank or a comment.
-pub fn parse(heap: Global, line: &[u8]) -> Result<Option<Command>, Fault> {
+pub fn parse(heap: Global, line: &[u8]) -> Result<Option<Command>, Fault>
+    ensures { GivesAs (option_map command_said) result (line_of (words_of (uncommented line.now))) }
+{
     let words = words(heap, line)?;
     match words.as_slice() {
         [] => Ok(None),
-        [b"board", rest @ ..] => Ok(Some(board(rest)?)),
-        [b"row", rest @ ..] => Ok(Some(row(heap, rest)?)),
-        [b"carrier", rest @ ..] => Ok(Some(carrier(rest)?)),
-        all => Ok(Some(call(heap, all)?)),
+        words => Ok(Some(command(heap, words)?)),
     }
 }

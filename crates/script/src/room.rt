@@ -25,11 +25,9 @@ fn asked(action: &Action) -> Option<usize>
 pub(crate) fn room(action: &Action, said: Option<usize>) -> Result<usize, Fault>
     ensures { result ≡ room_for (asked_by action.now) said }
 {
-    match asked(action) {
-        Some(length) => Ok(said.unwrap_or(length)),
-        None => match said {
-            Some(_) => Err(Fault::NoRoom),
-            None => Ok(0),
-        },
+    match (asked(action), said) {
+        (Some(length), said) => Ok(said.unwrap_or(length)),
+        (None, Some(_)) => Err(Fault::NoRoom),
+        (None, None) => Ok(0),
     }
 }

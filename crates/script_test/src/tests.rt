@@ -406,15 +406,9 @@ fn action(heap: Global, line: &[u8]) -> Option<Action> {
 #[test]
 fn a_sync(rt: HostRuntime) -> Result<(), Fail> {
     match action(rt.alloc(), b"sync 020 5 06+,c1-,6-") {
-        Some(
-            Action::Sync {
-                delay,
-                retry,
-                items,
-            },
-        ) => {
-            assert_eq!(rt; delay, 20);
-            assert_eq!(rt; retry, 5);
+        Some(Action::Sync { delays, items }) => {
+            assert_eq!(rt; delays.first.0, 20);
+            assert_eq!(rt; delays.retry.0, 5);
             let expected = [
                 Item {
                     identifier: 6,

@@ -75,3 +75,8 @@ PayloadsJoin a line = payloads (packets_on a line) ≡ bytes_on line
 -- the packet of this number, if it fits into so many bytes; else none
 abbrev pub chosen : List Bytes → (number room : ℕ) → Bytes
 chosen ps number room = cond (nat_le (length (slice_index_or ps number [])) room) (slice_index_or ps number []) []
+
+-- how long a packet is that was chosen, if one was
+abbrev pub copied_length : Bytes → Option ℕ
+copied_length [] = None
+copied_length (b ∷ bs) = Some (length (b ∷ bs))

@@ -1,18 +1,15 @@
 //! The calls of the SMBus carrier.
-ghost use Rattle.std.specs.Prelude.{◌≡◌, ◌≤◌, length, take};
-ghost use Rattle.std.proofs.lemmas.List.{length-map};
+ghost use Rattle.std.specs.Prelude.{◌≡◌, ◌≤◌, length};
 ghost use Rattle.event.specs.Bytes.{placed};
 ghost use Rattle.carrier.specs.Carriers.{takes, after_put, withdrawn, linked_up, linked_down};
-ghost use Rattle.smbus.specs.Packets.{packets_on, chosen, PayloadsJoin};
+ghost use Rattle.smbus.specs.Packets.{packets_on, chosen, copied_length, PayloadsJoin};
 ghost use Rattle.smbus.specs.Seen.{addressed, line_of, seen_if, made};
-ghost use Rattle.std.proofs.Common.{arith};
-ghost use Rattle.smbus.specs.Stored.{held};
-ghost use Rattle.smbus.specs.Stored;
-ghost use Rattle.smbus.specs.Lying.{brought_fits, few_stored};
+ghost use Rattle.smbus.specs.Lying.{line_fits};
 
 use crate::bus::SmbusCarrier;
-use crate::packet::{Addresses, Packet};
+use crate::packet::Addresses;
 use crate::packing::{join, split};
+use arrayvec::ArrayVec;
 use carrier::{Carrier, fits};
 use event::refusal::Refusal;
 
@@ -29,7 +26,6 @@ impl SmbusCarrier {
         if destination_address >= 128 || source_address >= 128 {
             return Err(Refusal::AddressTooHigh);
         }
-        let none = Packet::empty();
         Ok(SmbusCarrier {
             addresses: Addresses {
                 destination: destination_address,
@@ -38,16 +34,8 @@ impl SmbusCarrier {
             },
             up: true,
             destination: 0,
-            count: 0,
-            row: [none; 66],
+            packets: ArrayVec::new(),
         })
-    }
-
-    /// The packets that are stored.
-    fn stored(&self) -> &[Packet]
-        ensures { result.now ≡ take self.now.count self.now.row }
-    {
-        &self.row[0..self.count]
     }
 
     /// How many packets the message has that lies there: none, if none does. Their payloads, joined in the order of
@@ -57,36 +45,29 @@ impl SmbusCarrier {
         ensures few { result ≤ 66 }
         ensures joined { PayloadsJoin self.now.addresses (line_of self.now) }
     {
-        self.stored().len()
+        self.packets.len()
     }
 
     /// Copies the packet of this number, from 0 on, to the start of a buffer, and says how long it is. If there is no
-    /// such packet, or it is longer than the buffer, nothing is copied, and the length is 0.
-    pub fn copy_packet(&self, number: usize, buffer: &mut [u8]) -> usize
-        ensures count { result ≡ length (chosen (packets_on self.now.addresses (line_of self.now)) number (length buffer.old)) }
+    /// such packet, or it is longer than the buffer, nothing is copied.
+    pub fn copy_packet(&self, number: usize, buffer: &mut [u8]) -> Option<usize>
+        ensures count { result ≡ copied_length (chosen (packets_on self.now.addresses (line_of self.now)) number (length buffer.old)) }
         ensures buffer { buffer.new ≡ placed buffer.old 0 (chosen (packets_on self.now.addresses (line_of self.now)) number (length buffer.old)) }
     {
-        let packets = self.stored();
-        if number >= packets.len() {
-            return 0;
-        }
-        let packet = packets[number];
-        let bytes = packet.as_bytes();
+        let bytes = self.packets.get(number)?.as_bytes();
         let len = bytes.len();
         if buffer.len() < len {
-            return 0;
+            return None;
         }
-        buffer[0..len].copy_from_slice(bytes);
-        len
+        buffer[..len].copy_from_slice(bytes);
+        Some(len)
     }
 }
 
 impl Carrier for SmbusCarrier {
     ghost carried = { line_of };
 
-    ghost fits = { λ s.
-        let few : length (Stored.stored s.count s.row) ≤ 66 = omega (arith, length-map (take s.count s.row) held, few_stored s) in
-        brought_fits s.addresses s.destination (Stored.stored s.count s.row) few s.defined };
+    ghost fits = { line_fits };
 
     fn is_up(&self) -> bool {
         self.up
@@ -100,8 +81,7 @@ impl Carrier for SmbusCarrier {
         if !self.up || !fits(message) {
             return false;
         }
-        let addresses = self.addresses;
-        self.count = split(addresses, destination, message, &mut self.row);
+        split(self.addresses, destination, message, &mut self.packets);
         self.destination = destination;
         true
     }
@@ -110,9 +90,10 @@ impl Carrier for SmbusCarrier {
         ensures after { line_of self.new ≡ withdrawn (line_of self.old) }
         ensures kept { self.new.addresses ≡ self.old.addresses }
     {
-        self.count = 0;
+        self.packets.clear();
     }
 
+    // The trait's body does not say that the addresses stay.
     fn lose(&mut self)
         ensures after { line_of self.new ≡ withdrawn (line_of self.old) }
         ensures kept { self.new.addresses ≡ self.old.addresses }
@@ -139,9 +120,9 @@ impl Carrier for SmbusCarrier {
         if buffer.len() < 4224 {
             return Err(Refusal::MessageBufferShort);
         }
-        if self.count == 0 {
+        if self.packets.is_empty() {
             return Err(Refusal::NoMessage);
         }
-        Ok(join(self.stored(), buffer))
+        Ok(join(&self.packets, buffer))
     }
 }

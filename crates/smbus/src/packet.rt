@@ -1,7 +1,8 @@
 //! SMBus packets, each with up to 64 bytes of a message.
-ghost use Rattle.std.specs.Prelude.{◌≡◌, ◌≤◌, length};
+use arrayvec::ArrayVec;
 
 /// From where to where packets go.
+// That both addresses are below 128 is a fact of the carrier: definitions and theorems speak of any addresses.
 #[derive(Clone, Copy)]
 pub struct Addresses {
     /// The SMBus address of the receiver.
@@ -12,11 +13,8 @@ pub struct Addresses {
     pub id: u8,
 }
 
-/// One packet: a header of eight bytes, so many bytes of payload, and CRC-8 over both.
-#[derive(Clone, Copy)]
+/// One packet: a header of eight bytes, up to 64 bytes of payload, and CRC-8 over both.
+#[derive(Default, Drop)]
 pub(crate) struct Packet {
-    pub(crate) len: usize,
-    pub(crate) bytes: [u8; 73],
-    ghost short: { len ≤ 64 },
-    ghost whole: { length bytes ≡ 73 },
+    pub(crate) bytes: ArrayVec<u8, 73>,
 }

@@ -1,53 +1,33 @@
 //! From a message to its packets and back.
-ghost use Rattle.std.specs.Prelude.{◌≡◌, ◌+◌, ◌-◌, ◌*◌, ◌<◌, ◌≤◌, ◌++◌, map, length, take};
+ghost use Rattle.std.specs.Prelude.{◌≡◌, ◌+◌, ◌*◌, ◌<◌, ◌≤◌, ◌++◌, map, length};
 ghost use Rattle.event.specs.Bytes.{placed};
 ghost use Rattle.carrier.specs.Carriers.{message_to};
-ghost use Rattle.smbus.specs.Packets.{packet_count, payload as payload_of, flags as flags_of, checked, packet as packet_of, packets as packets_of, payload_of as payload_in, payloads};
+ghost use Rattle.smbus.specs.Packets.{flags as flags_of, header as header_of, checked, packets as packets_of, payload_of as payload_in, payloads};
 ghost use Rattle.smbus.specs.Stored.{held, stored};
 
 use crate::packet::{Addresses, Packet};
+use arrayvec::ArrayVec;
 use crc::crc8;
 
-/// Lays a packet into the start of a row.
-fn lay(row: &mut [u8], header: &[u8], part: &[u8])
-    requires { (length row.old ≡ 73) × ((length header.now ≡ 8) × (length part.now ≤ 64)) }
-    ensures { take (8 + length part.now + 1) row.new ≡ checked (header.now ++ part.now) }
-{
-    let end = 8 + part.len();
-    row[0..8].copy_from_slice(header);
-    row[8..end].copy_from_slice(part);
-    let check = crc8(&row[0..end]);
-    row[end] = check;
-}
-
 impl Packet {
-    /// What stands in the places without a packet.
-    pub(crate) fn empty() -> Packet {
-        Packet {
-            len: 0,
-            bytes: [0; 73],
-        }
-    }
-
     /// The packet of a header and a payload.
-    pub(crate) fn new(header: [u8; 8], part: &[u8]) -> Packet
-        requires { length part.now ≤ 64 }
-        ensures { held result ≡ checked (header ++ part.now) }
+    pub(crate) fn new(header: [u8; 8], payload: &[u8]) -> Packet
+        requires { length payload.now ≤ 64 }
+        ensures { held result ≡ checked (header ++ payload.now) }
     {
-        let mut bytes = [0u8; 73];
-        lay(&mut bytes, &header, part);
-        Packet {
-            len: part.len(),
-            bytes,
-        }
+        let mut bytes = ArrayVec::new();
+        bytes.try_extend_from_slice(&header).unwrap();
+        bytes.try_extend_from_slice(payload).unwrap();
+        let check = crc8(&bytes);
+        bytes.push(check);
+        Packet { bytes }
     }
 
     /// The whole packet.
     pub(crate) fn as_bytes(&self) -> &[u8]
         ensures { result.now ≡ held self.now }
     {
-        let end = 8 + self.len + 1;
-        &self.bytes[0..end]
+        &self.bytes
     }
 
     /// Its payload.
@@ -55,8 +35,10 @@ impl Packet {
         ensures part { result.now ≡ payload_in (held self.now) }
         ensures few { length result.now ≤ 64 }
     {
-        let end = 8 + self.len;
-        &self.bytes[8..end]
+        match self.bytes.as_slice() {
+            [_, _, _, _, _, _, _, _, payload @ .., _] => payload,
+            _ => &[],
+        }
     }
 }
 
@@ -65,75 +47,64 @@ fn flags(number: usize, count: usize) -> u8
     requires { number < 66 }
     ensures { result ≡ flags_of number count }
 {
-    let first = if number == 0 { 128u8 } else { 0 };
-    let last = if number + 1 == count { 64u8 } else { 0 };
-    first + last + (number % 4) as u8 * 16 + 8
+    let first = u8::from(number == 0);
+    let last = u8::from(number + 1 == count);
+    first * 128 + last * 64 + (number % 4) as u8 * 16 + 8
 }
 
-/// The part of a message that a packet has, by its number.
-fn part(message: &[u8], number: usize) -> &[u8]
-    requires { (64 * number < length message.now) × (number < 66) }
-    ensures part { result.now ≡ payload_of message.now number }
-    ensures few { length result.now ≤ 64 }
-{
-    let start = 64 * number;
-    if message.len() - start < 64 {
-        return &message[start..];
-    }
-    &message[start..start + 64]
-}
-
-/// The packet of a message by its number, of so many.
-fn packet_of(
+/// The header of a packet by its number, of so many, before so many bytes of payload.
+fn header(
     addresses: Addresses,
     destination: u8,
-    message: &[u8],
+    size: usize,
     number: usize,
     count: usize,
-) -> Packet
-    requires { (64 * number < length message.now) × ((number < 66) × ((count ≡ packet_count (length message.now)) × ((addresses.destination < 128) × (addresses.source < 128)))) }
-    ensures { held result ≡ packet_of addresses (message_to destination message.now) number }
+) -> [u8; 8]
+    requires low { (addresses.destination < 128) × (addresses.source < 128) }
+    requires size { size ≤ 64 }
+    requires number { number < 66 }
+    ensures { result ≡ header_of addresses destination size number count }
 {
-    let payload = part(message, number);
-    let header = [
+    [
         addresses.destination * 2,
         0x0F,
-        payload.len() as u8 + 5,
+        size as u8 + 5,
         addresses.source * 2 + 1,
         0x01,
         destination,
         addresses.id,
         flags(number, count),
-    ];
-    Packet::new(header, payload)
+    ]
 }
 
-/// Splits a message into its packets, in the first places of a row, and says how many there are.
+/// Splits a message into its packets.
 pub(crate) fn split(
     addresses: Addresses,
     destination: u8,
     message: &[u8],
-    row: &mut [Packet],
-) -> usize
-    requires { (length message.now ≤ 4224) × ((length row.old ≡ 66) × ((addresses.destination < 128) × (addresses.source < 128))) }
-    ensures count { result ≡ packet_count (length message.now) }
-    ensures all { stored result row.new ≡ packets_of addresses (message_to destination message.now) }
+    packets: &mut ArrayVec<Packet, 66>,
+)
+    requires low { (addresses.destination < 128) × (addresses.source < 128) }
+    requires long { length message.now ≤ 4224 }
+    ensures { stored packets.new ≡ packets_of addresses (message_to destination message.now) }
 {
-    let count = (message.len() + 63) / 64;
-    for number in 0..count {
-        row[number] = packet_of(addresses, destination, message, number, count);
+    let count = message.len().div_ceil(64);
+    packets.clear();
+    for (number, payload) in message.chunks(64).enumerate() {
+        let header = header(addresses, destination, payload.len(), number, count);
+        packets.push(Packet::new(header, payload));
     }
-    count
 }
 
 /// Joins the payloads of packets at the start of a buffer, and says how many bytes they have.
-pub(crate) fn join(row: &[Packet], buffer: &mut [u8]) -> usize
-    requires { (length row.now ≤ 66) × (4224 ≤ length buffer.old) }
-    ensures count { result ≡ length (payloads (map held row.now)) }
-    ensures buffer { buffer.new ≡ placed buffer.old 0 (payloads (map held row.now)) }
+pub(crate) fn join(packets: &[Packet], buffer: &mut [u8]) -> usize
+    requires { (length packets.now ≤ 66) × (4224 ≤ length buffer.old) }
+    ensures count { result ≡ length (payloads (map held packets.now)) }
+    ensures buffer { buffer.new ≡ placed buffer.old 0 (payloads (map held packets.now)) }
 {
+    // The place is kept here: of what an `iter_mut` in a `zip` wrote, a proof knows nothing.
     let mut at = 0;
-    for packet in row {
+    for packet in packets {
         let payload = packet.payload();
         let end = at + payload.len();
         buffer[at..end].copy_from_slice(payload);

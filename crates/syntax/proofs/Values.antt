@@ -1,10 +1,16 @@
 -- The digits of a number, one step on, and a number that is capped past its limit. Assumes nothing.
-use Rattle.std.proofs.Common.{◌≡◌, ℕ, ◌+◌, ◌*◌, ◌<◌, ◌≤◌, min, leb, [], ◌∷◌, length, get_or, drop, Some, None, Ok, Err, Option, sym, refl, ap, ◌∙◌, ⊎_elim, le-mul_of_pos_right, arith}
+use Rattle.std.proofs.Common.{◌≡◌, ◌⊎◌, ℕ, ◌+◌, ◌*◌, ◌<◌, ◌≤◌, min, leb, [], ◌∷◌, length, get_or, drop, Some, None, Ok, Err, Option, Result, MatchResult, ok_or, sym, refl, ap, ◌∙◌, inl, inr, ⊎_elim, le-mul_of_pos_right, arith}
 use Rattle.std.proofs.lemmas.List.{at_drop_more, at_drop_all}
 use Rattle.std.proofs.lemmas.Bool.{lt-leb, le-leb, cases_lt, cond-false, cond-true}
 use Rattle.event.specs.Bytes.{Bytes}
+use Rattle.syntax.specs.declared.fault.Fault.{Fault}
 use Rattle.syntax.specs.declared.fault.Fault.TheVariants.{NoNumber, OutOfRange}
-use Rattle.syntax.specs.Numbers.{digit_in, digits_from, at_most, number_of}
+use Rattle.syntax.specs.Numbers.{digit_in, digits_from, at_most, number_of, as_number}
+
+-- the fault where a value was missing
+pub missing : {T : Type 0} (o : Option T) (given fault : Fault) → ◌≡◌ {A = Result T Fault} (Err fault) (ok_or o given) → fault ≡ given
+missing None given fault e = cc
+missing (Some x) given fault e = cc
 
 -- what a digit leads to
 abbrev next : (base before : ℕ) → Bytes → Option ℕ → Option ℕ
@@ -33,19 +39,17 @@ digits_past base limit m n pos hm hn (b ∷ bs) =
     ])
     ∙ sym (ap (at_most limit) (digits_next base n b bs))
 
-capped : (base limit m : ℕ) → 1 ≤ base → (bs : Bytes) → at_most limit (digits_from base (min m (limit + 1)) bs) ≡ at_most limit (digits_from base m bs)
-capped base limit m pos bs =
-    ⊎_elim
-    (λ h. let k : limit < min m (limit + 1) = omega arith in digits_past base limit (min m (limit + 1)) m pos k h bs)
-    (λ h. let e : min m (limit + 1) ≡ m = omega arith in ap (λ n. at_most limit (digits_from base n bs)) e)
-    (cases_lt limit m)
+-- two numbers that are the same, or both past the limit
+same_past : (base limit m n : ℕ) → 1 ≤ base → (m ≡ n) ⊎ ((limit < m) × (limit < n)) → (bs : Bytes) → at_most limit (digits_from base m bs) ≡ at_most limit (digits_from base n bs)
+same_past base limit m n pos same bs =
+    ⊎_elim (λ e. ap (λ k. at_most limit (digits_from base k bs)) e) (λ h. digits_past base limit m n pos h.0 h.1 bs) same
 
--- one digit more
-pub digit_more : (base limit before value capped-to i : ℕ) (word : Bytes) → 1 ≤ base → i < length word → Some value ≡ digit_in base (get_or word i 0) → capped-to ≡ min (before * base + value) (limit + 1)
-    → at_most limit (digits_from base capped-to (drop (i + 1) word)) ≡ at_most limit (digits_from base before (drop i word))
-digit_more base limit before value capped-to i word pos inside is e =
-    ap (λ n. at_most limit (digits_from base n (drop (i + 1) word))) e
-    ∙ capped base limit (before * base + value) pos (drop (i + 1) word)
+-- one digit more, and a number that stays below the top
+pub digit_more : (base limit top before value now i : ℕ) (word : Bytes) → 1 ≤ base → limit < top → i < length word → Some value ≡ digit_in base (get_or word i 0) → now ≡ min (min (before * base) top + value) top
+    → at_most limit (digits_from base now (drop (i + 1) word)) ≡ at_most limit (digits_from base before (drop i word))
+digit_more base limit top before value now i word pos high inside is e =
+    let said : ℕ = before * base + value in
+    same_past base limit now said pos (⊎_elim (λ h. inr (omega arith, omega arith)) (λ h. inl (omega arith)) (cases_lt top said)) (drop (i + 1) word)
     ∙ ap (λ o. at_most limit (next base before (drop (i + 1) word) o)) is
     ∙ sym (ap (at_most limit) (digits_next base before (get_or word i 0) (drop (i + 1) word)))
     ∙ sym (ap (at_most limit) (at_drop_more (digits_from base before) word i 0 inside))
@@ -62,11 +66,16 @@ pub digits_all : (base limit before i : ℕ) (word : Bytes) → length word ≤ 
 unfolding digits_from
 digits_all base limit before i word end = ap (at_most limit) (at_drop_all (digits_from base before) word i end)
 
-pub within_limit : (limit n : ℕ) → n ≤ limit → at_most limit (Some n) ≡ Ok n
-within_limit limit n h = cond-true (leb n limit) (Ok n) (Err OutOfRange) (le-leb n limit h)
-
-pub past_limit : (limit n : ℕ) → limit < n → at_most limit (Some n) ≡ Err OutOfRange
-past_limit limit n h = past limit n h
+-- a number was turned into a value of a type
+pub turned : {T E : Type 0} (greatest : ℕ) (number : T → ℕ) (value : ℕ) (tried : Result T E) (r : Result T Fault)
+    → MatchResult tried (λ v. (value ≤ greatest) × (number v ≡ value)) (λ _. greatest < value)
+    → MatchResult tried (λ v. r ≡ Ok v) (λ _. r ≡ Err OutOfRange)
+    → as_number number r ≡ at_most greatest (Some value)
+turned greatest number value (Ok v) r h e =
+    ap (as_number number) e
+    ∙ ap Ok h.1
+    ∙ sym (cond-true (leb value greatest) (Ok value) (Err OutOfRange) (le-leb value greatest h.0))
+turned greatest number value (Err x) r h e = ap (as_number number) e ∙ sym (past greatest value h)
 
 -- the number of a word that is not empty
 pub number_is : (base limit : ℕ) (word : Bytes) → 0 < length word → number_of base limit word ≡ at_most limit (digits_from base 0 word)

@@ -1,5 +1,5 @@
 -- What digits and numbers say. Assumes nothing.
-use Rattle.std.specs.Prelude.{ℕ, ◌+◌, ◌-◌, ◌*◌, cond, [], ◌∷◌, Some, None, Ok, Err, Option, Result, nat_le, nat_lt}
+use Rattle.std.specs.Prelude.{◌≡◌, ℕ, ◌+◌, ◌-◌, ◌*◌, ◌^◌, ◌<◌, ◌≤◌, cond, [], ◌∷◌, Some, None, Ok, Err, Option, Result, MatchResult, nat_le, nat_lt}
 use Rattle.event.specs.Bytes.{Bytes, within}
 use Rattle.syntax.specs.declared.fault.Fault.{Fault}
 use Rattle.syntax.specs.declared.fault.Fault.TheVariants.{NoNumber, OutOfRange}
@@ -31,3 +31,17 @@ at_most limit (Some number) = cond (nat_le number limit) (Ok number) (Err OutOfR
 abbrev pub number_of : (base limit : ℕ) → Bytes → Result ℕ Fault
 number_of base limit [] = Err NoNumber
 number_of base limit (b ∷ bs) = at_most limit (digits_from base 0 (b ∷ bs))
+
+-- a result, as the number that its value is
+abbrev pub as_number : {T : Type 0} → (T → ℕ) → Result T Fault → Result ℕ Fault
+as_number number (Ok value) = Ok (number value)
+as_number number (Err fault) = Err fault
+
+-- a type whose values are the numbers up to the greatest: a number is turned into its value, and one past the greatest into none
+pub record IsUnsigned {T E : Type 0} (greatest : ℕ) (number : T → ℕ) (gives : ℕ → Result T E → Type 0) : Type 0 where
+  pub low : greatest < 2 ^ 64
+  pub held : (n : ℕ) (r : Result T E) → gives n r → MatchResult r (λ value. (n ≤ greatest) × (number value ≡ n)) (λ _. greatest < n)
+
+-- the greatest number of a usize
+abbrev pub usize_max : ℕ
+usize_max = 18446744073709551615

@@ -5,10 +5,14 @@ use Rattle.syntax.specs.declared.fault.Fault.{Fault}
 use Rattle.syntax.specs.declared.fault.Fault.TheVariants.{OddDigits, NoDigits, OutOfMemory}
 use Rattle.syntax.specs.Numbers.{digit_of}
 
--- a result is what is said, unless no memory is left
+-- a result is what is said, as `view` sees it, unless no memory is left
+abbrev pub GivesAs : {A B : Type 0} → (A → B) → Result A Fault → Result B Fault → Type 0
+GivesAs view (Ok value) said = said ≡ Ok (view value)
+GivesAs view (Err fault) said = (fault ≡ OutOfMemory) ⊎ (said ≡ Err fault)
+
+-- the same of a row
 abbrev pub Gives : {X Z : Type 0} → Result (Vec X Z) Fault → Result (List X) Fault → Type 0
-Gives (Ok row) said = said ≡ Ok (vec_items row)
-Gives (Err fault) said = (fault ≡ OutOfMemory) ⊎ (said ≡ Err fault)
+Gives result said = GivesAs vec_items result said
 
 -- what is said, with this before it
 abbrev pub behind : {X : Type 0} → X → Result (List X) Fault → Result (List X) Fault

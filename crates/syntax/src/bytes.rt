@@ -10,24 +10,19 @@ use std::alloc::Global;
 pub fn is_dash(word: &[u8]) -> bool
     ensures { result ≡ is_dash word.now }
 {
-    word.len() == 1 && word[0] == b'-'
+    matches!(word, [b'-'])
 }
 
 // The bytes of pairs of hexadecimal digits.
 fn pairs(heap: Global, word: &[u8]) -> Result<Vec<u8>, Fault>
     ensures { Gives result (pairs_of word.now) }
 {
+    let (pairs, rest) = word.as_chunks::<2>();
     let mut bytes = Vec::new(heap);
-    let mut rest = word;
-    while let [first, second, after @ ..] = rest {
-        let Some(high) = digit(*first) else {
-            return Err(Fault::NoDigits);
-        };
-        let Some(low) = digit(*second) else {
-            return Err(Fault::NoDigits);
-        };
+    for [high, low] in pairs {
+        let high = digit(*high).ok_or(Fault::NoDigits)?;
+        let low = digit(*low).ok_or(Fault::NoDigits)?;
         bytes.push(high * 16 + low)?;
-        rest = after;
     }
     if !rest.is_empty() {
         return Err(Fault::OddDigits);

@@ -30,6 +30,7 @@ pub enum Fault {
     OutOfMemory,
 }
 
+// One for each error of an allocation, since `?` asks for it.
 impl From<AllocError> for Fault {
     ghost from_gives = { λ _ r. r ≡ OutOfMemory };
 
@@ -48,23 +49,18 @@ impl<T: Drop> From<AllocFailed<T>> for Fault {
 
 impl fmt::Display for Fault {
     fn fmt<W: fmt::Write>(&self, f: &mut fmt::Formatter<W>) -> fmt::Result {
-        let words = words(*self);
+        let words = match self {
+            Fault::UnknownWord => "an unknown word",
+            Fault::WordMissing => "a word is missing",
+            Fault::WordTooMany => "a word too many",
+            Fault::NoNumber => "not a number",
+            Fault::OutOfRange => "a number is out of range",
+            Fault::OddDigits => "an odd number of hex digits",
+            Fault::NoDigits => "not hex digits",
+            Fault::NoSwitch => "an item ends in neither + nor -",
+            Fault::NoRoom => "this call takes no room",
+            Fault::OutOfMemory => "out of memory",
+        };
         write!(f, "{words}")
-    }
-}
-
-// What is wrong with the line.
-fn words(fault: Fault) -> &'static str {
-    match fault {
-        Fault::UnknownWord => "an unknown word",
-        Fault::WordMissing => "a word is missing",
-        Fault::WordTooMany => "a word too many",
-        Fault::NoNumber => "not a number",
-        Fault::OutOfRange => "a number is out of range",
-        Fault::OddDigits => "an odd number of hex digits",
-        Fault::NoDigits => "not hex digits",
-        Fault::NoSwitch => "an item ends in neither + nor -",
-        Fault::NoRoom => "this call takes no room",
-        Fault::OutOfMemory => "out of memory",
     }
 }

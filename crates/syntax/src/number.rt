@@ -1,96 +1,99 @@
 //! Words that are numbers.
-ghost use Rattle.std.specs.Prelude.{◌≡◌, ◌≤◌, IfOk};
-ghost use Rattle.syntax.specs.Numbers.{digit_in, number_of};
+ghost use Rattle.std.specs.Prelude.{◌≡◌, ℕ, ◌<◌, ◌≤◌};
+ghost use Rattle.std.proofs.Common.{rules, lit<};
+ghost use Rattle.syntax.specs.Numbers.{digit_in, number_of, as_number, IsUnsigned, usize_max};
 
 use crate::digit::digit;
 use crate::fault::Fault;
+use std::num::TryFromIntError;
+
+/// An unsigned type, of which words say numbers.
+pub trait Unsigned: TryFrom<u128, Error = TryFromIntError> {
+    /// The greatest number of the type.
+    ghost greatest: { ℕ };
+
+    /// The number that a value is.
+    ghost number: { Self → ℕ };
+
+    ghost laws: { IsUnsigned greatest number Self.try_from_gives };
+}
+
+impl Unsigned for u8 {
+    ghost greatest = { 255 };
+
+    ghost number = { λ n. n };
+
+    ghost laws = { record { low = lit< tt; held = Prim.search rules } };
+}
+
+impl Unsigned for u16 {
+    ghost greatest = { 65535 };
+
+    ghost number = { λ n. n };
+
+    ghost laws = { record { low = lit< tt; held = Prim.search rules } };
+}
+
+impl Unsigned for u32 {
+    ghost greatest = { 4294967295 };
+
+    ghost number = { λ n. n };
+
+    ghost laws = { record { low = lit< tt; held = Prim.search rules } };
+}
+
+impl Unsigned for usize {
+    ghost greatest = { usize_max };
+
+    ghost number = { λ n. n };
+
+    ghost laws = { record { low = lit< tt; held = Prim.search rules } };
+}
 
 // The value of a digit of the base; none for another byte.
 fn digit_in(base: u128, byte: u8) -> Option<u8>
     ensures { result ≡ digit_in base byte }
 {
-    match digit(byte) {
-        Some(value) => {
-            if u128::from(value) < base {
-                Some(value)
-            } else {
-                None
-            }
-        }
-        None => None,
-    }
+    digit(byte).filter(|value| u128::from(*value) < base)
 }
 
-// The number that a word says in a base, at most `limit`.
-fn number(base: u128, limit: u64, word: &[u8]) -> Result<u64, Fault>
-    requires low { 1 ≤ base }
-    requires high { base ≤ 16 }
-    ensures is { result ≡ number_of base limit word.now }
-    ensures fits { IfOk result (λ n. n ≤ limit) }
+// The number that a word says in a base.
+fn number<T: Unsigned>(base: u128, word: &[u8]) -> Result<T, Fault>
+    requires { 1 ≤ base }
+    ensures { as_number T.number result ≡ number_of base T.greatest word.now }
 {
     if word.is_empty() {
         return Err(Fault::NoNumber);
     }
-    let over = u128::from(limit) + 1;
     let mut value: u128 = 0;
     for byte in word {
-        let Some(digit) = digit_in(base, *byte) else {
-            return Err(Fault::NoNumber);
-        };
-        value = (value * base + u128::from(digit)).min(over);
+        let digit = digit_in(base, *byte).ok_or(Fault::NoNumber)?;
+        value = value.saturating_mul(base).saturating_add(u128::from(digit));
     }
-    if value == over {
-        return Err(Fault::OutOfRange);
-    }
-    Ok(value as u64)
+    T::try_from(value).map_err(|_| Fault::OutOfRange)
 }
 
-/// A byte in hexadecimal.
-pub fn hex_byte(word: &[u8]) -> Result<u8, Fault>
-    ensures { result ≡ number_of 16 255 word.now }
+/// A number in hexadecimal, of any unsigned type.
+pub fn hex<T: Unsigned>(word: &[u8]) -> Result<T, Fault>
+    ensures { as_number T.number result ≡ number_of 16 T.greatest word.now }
 {
-    match number(16, 0xFF, word) {
-        Ok(value) => Ok(value as u8),
-        Err(fault) => Err(fault),
-    }
+    number(16, word)
 }
 
-/// A number of 16 bits in hexadecimal.
-pub fn hex_short(word: &[u8]) -> Result<u16, Fault>
-    ensures { result ≡ number_of 16 65535 word.now }
+/// A number in decimal, of any unsigned type.
+pub fn decimal<T: Unsigned>(word: &[u8]) -> Result<T, Fault>
+    ensures { as_number T.number result ≡ number_of 10 T.greatest word.now }
 {
-    match number(16, 0xFFFF, word) {
-        Ok(value) => Ok(value as u16),
-        Err(fault) => Err(fault),
-    }
-}
-
-/// A number of 32 bits in hexadecimal.
-pub fn hex_long(word: &[u8]) -> Result<u32, Fault>
-    ensures { result ≡ number_of 16 4294967295 word.now }
-{
-    match number(16, 0xFFFF_FFFF, word) {
-        Ok(value) => Ok(value as u32),
-        Err(fault) => Err(fault),
-    }
-}
-
-/// A byte in decimal.
-pub fn decimal_byte(word: &[u8]) -> Result<u8, Fault>
-    ensures { result ≡ number_of 10 255 word.now }
-{
-    match number(10, 255, word) {
-        Ok(value) => Ok(value as u8),
-        Err(fault) => Err(fault),
-    }
+    number(10, word)
 }
 
 /// A number in decimal, at most `limit`.
-pub fn decimal(limit: usize, word: &[u8]) -> Result<usize, Fault>
+pub fn decimal_at_most(limit: usize, word: &[u8]) -> Result<usize, Fault>
     ensures { result ≡ number_of 10 limit word.now }
 {
-    match number(10, limit as u64, word) {
-        Ok(value) => Ok(value as usize),
-        Err(fault) => Err(fault),
+    let number = decimal(word)?;
+    if number > limit {
+        return Err(Fault::OutOfRange);
     }
+    Ok(number)
 }

@@ -1,6 +1,6 @@
 //! The words of a line.
-ghost use Rattle.std.specs.Prelude.{◌≡◌, ◌++◌, IfOk, OnOk};
-ghost use Rattle.syntax.specs.Lines.{uncommented, blank, word_if, words_of, spaced, texts};
+ghost use Rattle.std.specs.Prelude.{◌≡◌, IfOk, IsOkUnless};
+ghost use Rattle.syntax.specs.Lines.{uncommented, blank, words_of, spaced, texts};
 
 use crate::fault::Fault;
 use std::alloc::Global;
@@ -9,51 +9,32 @@ use std::alloc::Global;
 fn before_comment(line: &[u8]) -> &[u8]
     ensures { result.now ≡ uncommented line.now }
 {
-    for (i, byte) in line.iter().enumerate() {
-        if *byte == b'#' {
-            return &line[0..i];
-        }
+    match line.iter().position(|byte| *byte == b'#') {
+        Some(end) => &line[..end],
+        None => line,
     }
-    line
 }
 
 // Whether a byte stands between words.
 fn is_blank(byte: u8) -> bool
     ensures { result ≡ blank byte }
 {
-    byte == b' ' || byte == b'\t' || byte == b'\r'
-}
-
-// Puts a piece of a line behind the words, unless it is empty.
-fn keep<'a>(words: &mut Vec<&'a [u8]>, piece: &'a [u8]) -> Result<(), Fault>
-    ensures { OnOk result (texts words.new.items ≡ texts words.old.items ++ word_if piece.now) }
-{
-    if !piece.is_empty() {
-        words.push(piece)?;
-    }
-    Ok(())
+    matches!(byte, b' ' | b'\t' | b'\r')
 }
 
 /// The words of a line, its comment left out.
 pub fn words<'a>(heap: Global, line: &'a [u8]) -> Result<Vec<&'a [u8]>, Fault>
-    ensures { IfOk result (λ v. texts v.items ≡ words_of (uncommented line.now)) }
+    ensures words { IfOk result (λ v. texts v.items ≡ words_of (uncommented line.now)) }
+    ensures only { IsOkUnless result Fault.OutOfMemory }
 {
-    let said = before_comment(line);
-    let mut words = Vec::new(heap);
-    let mut start = 0;
-    for (i, byte) in said.iter().enumerate() {
-        if is_blank(*byte) {
-            keep(&mut words, &said[start..i])?;
-            start = i + 1;
-        }
-    }
-    keep(&mut words, &said[start..])?;
-    Ok(words)
+    let pieces = before_comment(line).split(|byte| is_blank(*byte));
+    Ok(pieces.filter(|piece| !piece.is_empty()).collect(heap)?)
 }
 
 /// Words joined by one blank.
 pub fn joined(heap: Global, words: &[&[u8]]) -> Result<Vec<u8>, Fault>
-    ensures { IfOk result (λ v. v.items ≡ spaced (texts words.now)) }
+    ensures text { IfOk result (λ v. v.items ≡ spaced (texts words.now)) }
+    ensures only { IsOkUnless result Fault.OutOfMemory }
 {
     let mut text = Vec::new(heap);
     let [first, rest @ ..] = words else {

@@ -9,13 +9,10 @@ use published::VECTORS;
 
 /// Reports every vector, then how many agree; an error where one differs.
 fn run(rt: &impl Print) -> anyhow::Result<()> {
-    let mut agreed = 0usize;
     for vector in &VECTORS {
         vector.report(rt)?;
-        if vector.agrees() {
-            agreed += 1;
-        }
     }
+    let agreed = VECTORS.iter().filter(|vector| vector.agrees()).count();
     let all = VECTORS.len();
     println!(rt; "{agreed} of {all} agree")?;
     if agreed < all {

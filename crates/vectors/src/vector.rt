@@ -6,6 +6,7 @@ use crc::{crc8, crc32c};
 use std::io;
 
 /// The kind of a check.
+// An enum, and not a function to call: the contracts and the printed names tell the two apart.
 #[derive(Clone, Copy, Drop)]
 pub enum Check {
     Crc32c,

@@ -1,14 +1,16 @@
 -- What a buffer holds after the parts of a message were written one after the other. Assumes nothing.
-use Rattle.std.proofs.Common.{◌≡◌, ℕ, ◌+◌, ◌-◌, ◌≤◌, Bool, true, cond, leb, [], ◌∷◌, ◌++◌, length, take, drop, Some, None, Ok, sym, ap, ◌∙◌, subst, arith}
+use Rattle.std.proofs.Common.{◌≡◌, ℕ, ◌+◌, ◌-◌, Bool, true, false, cond, leb, [], ◌∷◌, ◌++◌, length, take, drop, Some, None, Option, Result, sym, ap, ◌∙◌, arith}
 use borrow.Rule.Slice.PartMut.{put_mid}
-use Rattle.std.proofs.lemmas.Bool.{le-leb}
-use Rattle.std.proofs.lemmas.List.{take_rest, take_at, drop-drop, drop_all, append-nil, length-append}
+use Rattle.std.specs.Option.{ok_or}
+use Rattle.std.proofs.lemmas.List.{take_at, length-append}
 use Rattle.crc.specs.Crc.{crc32c}
 use Rattle.event.specs.Bytes.{Bytes, placed, le32}
 use Rattle.event.specs.declared.refusal.Refusal.{Refusal}
 use Rattle.event.specs.Refusals.{ask, first_no}
 use Rattle.event.specs.Outcomes.{over_front, Gives, unless}
 use Rattle.event.proofs.Placed.{placed-front, placed-placed}
+use Rattle.marks.specs.Written.{Written}
+use Rattle.marks.proofs.Parts.{part_placed}
 use Rattle.wire.specs.Checks.{checked}
 
 -- one part more behind what was written
@@ -34,20 +36,6 @@ pub length-checked : (s : Bytes) → length (checked s) ≡ length s + 4
 unfolding checked
 length-checked s = length-append s (le32 (crc32c s))
 
--- nothing is left past the part from a on
-no_rest : (a : ℕ) (xs : Bytes) → drop (length xs - a) (drop a xs) ≡ []
-no_rest a xs = drop-drop (length xs - a) a xs ∙ drop_all (a + (length xs - a)) xs (omega arith)
-
--- a write to the front of the part of a buffer from a on
-pub part_placed : (a : ℕ) (xs s : Bytes) → put_mid a (length xs - a) xs (placed (take (length xs - a) (drop a xs)) 0 s) ≡ placed xs a s
-unfolding placed
-part_placed a xs s =
-    ap (λ (z : Bytes). take a xs ++ ((s ++ drop (0 + length s) (take (length xs - a) (drop a xs))) ++ z)) (no_rest a xs)
-    ∙ ap (λ (z : Bytes). take a xs ++ z) (append-nil (s ++ drop (0 + length s) (take (length xs - a) (drop a xs))))
-    ∙ ap (λ (z : Bytes). take a xs ++ (s ++ drop (0 + length s) z)) (take_rest xs a)
-    ∙ ap (λ (z : Bytes). take a xs ++ (s ++ z)) (drop-drop (0 + length s) a xs)
-    ∙ ap (λ (n : ℕ). take a xs ++ (s ++ drop n xs)) (omega arith)
-
 -- a head, then a list to the front of what follows it, then the check word
 pub message-written : (d head l : Bytes) (one part three : Bytes) (a end : ℕ) → a ≡ length head → one ≡ placed d 0 head
     → part ≡ placed (take (length one - a) (drop a one)) 0 l → end ≡ length (head ++ l)
@@ -59,9 +47,11 @@ message-written d head l one part three a end e f g h w =
     ap (put_mid a (length one - a) one) g ∙ part_placed a one l ∙ ap (λ (b : Bytes). placed b a l) (f ∙ placed-front d head) ∙ one_more d head l a e in
     w ∙ ap (λ (b : Bytes). placed b end (le32 (crc32c (take end b)))) both ∙ with_check d (head ++ l) end h
 
--- a call that had the room hands back the message and its length
-pub room_gives : (needed : ℕ) (short : Refusal) (m before after : Bytes) (n : ℕ) → needed ≤ length before → n ≡ length m → after ≡ over_front m before
-    → Gives (unless (first_no (ask (leb needed (length before)) short ∷ [])) m) before after (Ok n)
-room_gives needed short m before after n h e w =
-    let there : leb needed (length before) ≡ true = le-leb needed (length before) h in
-    subst (λ (b : Bool). Gives (unless (cond b None (Some short)) m) before after (Ok n)) (sym there) (record { result = ap Ok e; buffer = w })
+-- a call that wrote so hands back the message and its length, or the refusal
+pub written_gives : (room : ℕ) (short : Refusal) (m before after : Bytes) (answer : Option ℕ) (r : Result ℕ Refusal) → Written room m before after answer → r ≡ ok_or answer short
+    → Gives (unless (first_no (ask (leb room (length before)) short ∷ [])) m) before after r
+written_gives room short m before after answer r w e = go (leb room (length before)) (e ∙ ap (λ (o : Option ℕ). ok_or o short) w.number) w.buffer
+  where
+    go : (b : Bool) → r ≡ ok_or (cond b (Some (length m)) None) short → after ≡ cond b (placed before 0 m) before → Gives (unless (cond b None (Some short)) m) before after r
+    go true e w = record { result = e; buffer = w ∙ placed-front before m }
+    go false e w = record { result = e; buffer = w }

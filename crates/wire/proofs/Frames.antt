@@ -1,5 +1,5 @@
 -- A head, a list and the check word: such bytes are read back, and are the only ones. Assumes nothing.
-use Rattle.std.proofs.Common.{◌≡◌, ◌-◌, ◌<◌, ◌≤◌, Bool, true, ◌&&◌, [], ◌∷◌, ◌++◌, length, take, drop, sym, refl, ap, ◌∙◌, arith, length-drop, take-append-drop, length-take}
+use Rattle.std.proofs.Common.{◌≡◌, ◌-◌, ◌<◌, ◌≤◌, Bool, true, ◌&&◌, ◌++◌, length, take, drop, sym, refl, ap, ◌∙◌, append_assoc, arith, length-drop, take-append-drop, length-take}
 use Rattle.std.proofs.lemmas.Bool.{and_parts, and_from}
 use Rattle.std.proofs.lemmas.List.{take_at, drop_at, take-take}
 use Rattle.crc.specs.Crc.{crc32c}
@@ -24,11 +24,7 @@ framed head bytes = same_bytes (take (length head) bytes) head && is_checked byt
 
 pub head_of : (head m : Bytes) → take (length head) (checked (head ++ m)) ≡ head
 unfolding checked
-head_of head m = ap (take (length head)) (append-two head m (le32 (crc32c (head ++ m)))) ∙ take_at head _ _ refl
-  where
-    append-two : (a b c : Bytes) → (a ++ b) ++ c ≡ a ++ (b ++ c)
-    append-two [] b c = refl
-    append-two (x ∷ a) b c = ap (λ (l : Bytes). x ∷ l) (append-two a b c)
+head_of head m = ap (take (length head)) (append_assoc head m (le32 (crc32c (head ++ m)))) ∙ take_at head _ _ refl
 
 pub frame_back : (head m : Bytes) → framed head (checked (head ++ m)) ≡ true
 frame_back head m = and_from _ _ (ap (λ (l : Bytes). same_bytes l head) (head_of head m) ∙ same_refl head) (checked-is (head ++ m))

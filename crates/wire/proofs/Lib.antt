@@ -1,7 +1,7 @@
 mod Stepped
 mod Words
-mod Buffers
+pub mod Buffers
 mod ItemLists
-mod Frames
+pub mod Frames
 pub mod RequestsBack
 pub mod MessagesBack

@@ -1,15 +1,18 @@
 -- Event messages and answers read back, and are the only encodings. Assumes nothing.
-use Rattle.std.proofs.Common.{◌≡◌, ℕ, ◌+◌, ◌-◌, ◌*◌, ◌/◌, ◌%◌, ◌<◌, ◌≤◌, Bool, true, false, cond, ◌&&◌, eqb, [], ◌++◌, length, take, drop, Some, None, Decides, Option, sym, refl, ap, ◌∙◌, subst, arith, length-take}
-use Rattle.std.proofs.lemmas.List.{length-append, drop_all, drop-take}
-use Rattle.std.proofs.lemmas.Bool.{eqb-true}
+use Rattle.std.proofs.Common.{◌≡◌, ℕ, ◌+◌, ◌-◌, ◌*◌, ◌/◌, ◌%◌, ◌<◌, ◌≤◌, Bool, true, false, cond, ◌&&◌, eqb, leb, [], ◌++◌, length, take, drop, Some, None, Option, sym, refl, ap, ◌∙◌, subst, arith, length-take}
+use Rattle.std.proofs.Math.Bool.{and-false}
+use Rattle.std.proofs.lemmas.List.{length-append, drop_all, take-take}
+use Rattle.std.proofs.lemmas.Bool.{eqb-true, leb-true, leb-false}
+use Rattle.std.specs.Cmp.Lexicographic.{pointwise}
 use Rattle.event.specs.Bytes.{Bytes, same_bytes}
 use Rattle.list.specs.Lists.{Told, these, overflow, Listing, listing, header, body, lawful_told, list_bytes, tells, read_list}
-use Rattle.event.proofs.SameBytes.{same_decides}
+use Rattle.event.proofs.SameBytes.{same_is}
 use Rattle.list.proofs.Back.{reads_back}
 use Rattle.list.proofs.Only.{only_encoding}
 use Rattle.wire.specs.Checks.{checked, unchecked, is_checked}
 use Rattle.wire.specs.Messages.{event_head, event_message, Event, event_of, read_framed, read_event, answer_head, answer_message, Answer, answer_of, slot_of, read_answer}
 use Rattle.wire.specs.Laws.{EventsReadBack, AnswersReadBack, EncodesEvent, OnlyEvent, EncodesAnswer, OnlyAnswer}
+use Rattle.wire.proofs.Words.{pointwise-same}
 use Rattle.wire.proofs.Frames.{framed, frame_back, list_back, frame_only}
 
 -- a list in its frame reads back
@@ -93,40 +96,44 @@ only-answer bytes a e = go (read_framed (answer_head (slot_of bytes)) bytes) ref
 -- no bytes are no list
 no_list : read_list [] ≡ None
 unfolding read_list list_bytes
-no_list = ap (λ (b : Bool). cond b (Some (listing 0 (tells []))) None) (and_false (lawful_told (tells [])))
-  where
-    and_false : (b : Bool) → (b && false) ≡ false
-    and_false true = refl
-    and_false false = refl
+no_list = ap (λ (b : Bool). cond b (Some (listing 0 (tells []))) None) (and-false (lawful_told (tells [])))
 
 pub too_short : (head bytes : Bytes) → length bytes < length head + 4 → read_framed head bytes ≡ None
 unfolding read_framed unchecked
 too_short head bytes h =
     let n = length bytes - 4 in
     let none = ap read_list (drop_all (length head) (take n bytes) (let e = length-take n bytes in omega arith)) ∙ no_list in
-    ap (λ (o : Option Listing). cond (framed head bytes) o None) none ∙ same_either (framed head bytes)
+    ap (λ (o : Option Listing). cond (framed head bytes) o None) none
+    ∙ (elim (framed head bytes) as (λ (b : Bool). cond {A = Option Listing} b None None ≡ None) [ true ↦ refl | false ↦ refl ])
+
+-- bytes that are not in the frame
+not_framed : (head bytes : Bytes) → framed head bytes ≡ false → read_framed head bytes ≡ None
+unfolding read_framed
+not_framed head bytes e = ap (λ (b : Bool). cond b (read_list (drop (length head) (unchecked bytes))) None) e
+
+-- the head stands before the check word
+abbrev pub begins : (head bytes : Bytes) → Bool
+begins head bytes = pointwise eqb (take (length head) (take (length bytes - 4) bytes)) head
+
+pub not_starting : (head bytes : Bytes) → begins head bytes ≡ false → read_framed head bytes ≡ None
+not_starting head bytes e = go (leb (length head) (length bytes - 4)) refl
   where
-    same_either : (b : Bool) → cond {A = Option Listing} b None None ≡ None
-    same_either true = refl
-    same_either false = refl
+    go : (b : Bool) → leb (length head) (length bytes - 4) ≡ b → read_framed head bytes ≡ None
+    go false f = too_short head bytes (let h = leb-false (length head) (length bytes - 4) f in omega arith)
+    go true f =
+        let front = take-take (length head) (length bytes - 4) bytes (leb-true _ _ f) in
+        let other = ap (λ (l : Bytes). same_bytes l head) (sym front) ∙ sym (pointwise-same _ head) ∙ e in
+        not_framed head bytes (ap (λ (b : Bool). b && is_checked bytes) other)
 
-pub not_starting : (head bytes : Bytes) → same_bytes (take (length head) bytes) head ≡ false → read_framed head bytes ≡ None
-unfolding read_framed
-not_starting head bytes e = ap (λ (b : Bool). cond (b && is_checked bytes) (read_list (drop (length head) (unchecked bytes))) None) e
+pub not_checked : (head bytes : Bytes) → is_checked bytes ≡ false → read_framed head bytes ≡ None
+not_checked head bytes e = not_framed head bytes (ap (λ (b : Bool). same_bytes (take (length head) bytes) head && b) e ∙ and-false (same_bytes (take (length head) bytes) head))
 
-pub not_checked : (head bytes : Bytes) → same_bytes (take (length head) bytes) head ≡ true → is_checked bytes ≡ false → read_framed head bytes ≡ None
-unfolding read_framed
-not_checked head bytes e f = (λ i. cond (e i && f i) (read_list (drop (length head) (unchecked bytes))) None)
-
-pub the_list : (head bytes : Bytes) → same_bytes (take (length head) bytes) head ≡ true → is_checked bytes ≡ true → length head + 4 ≤ length bytes →
-    read_framed head bytes ≡ read_list (take (length bytes - 4 - length head) (drop (length head) bytes))
+pub the_list : (head bytes : Bytes) → begins head bytes ≡ true → is_checked bytes ≡ true → read_framed head bytes ≡ read_list (drop (length head) (take (length bytes - 4) bytes))
 unfolding read_framed unchecked
-the_list head bytes e f h =
+the_list head bytes e f =
     let k = length head in
-    let n : length bytes - 4 ≡ k + (length bytes - 4 - k) = omega arith in
-    (λ i. cond (e i && f i) (read_list (drop k (unchecked bytes))) None)
-    ∙ ap read_list (ap (λ (m : ℕ). drop k (take m bytes)) n ∙ drop-take k (length bytes - 4 - k) bytes)
-
--- whether bytes start so
-pub starting : (r : Bool) (head bytes : Bytes) → Decides r (head ≡ take (length head) bytes) → r ≡ same_bytes (take (length head) bytes) head
-starting r head bytes d = same_decides r (take (length head) bytes) head (λ e. sym (d.0 e)) (λ e. d.1 (sym e))
+    let n = length bytes - 4 in
+    let same = sym (pointwise-same (take k (take n bytes)) head) ∙ e in
+    let inside : k ≤ n = omega (arith, ap length (same_is (take k (take n bytes)) head same), length-take k (take n bytes), length-take n bytes) in
+    let front = ap (λ (l : Bytes). same_bytes l head) (sym (take-take k n bytes inside)) ∙ same in
+    λ i. cond (front i && f i) (read_list (drop k (take n bytes))) None

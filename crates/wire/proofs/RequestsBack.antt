@@ -2,8 +2,7 @@
 use Rattle.std.proofs.Common.{◌≡◌, ℕ, ◌+◌, ◌-◌, ◌/◌, ◌%◌, ◌≤◌, Bool, true, false, cond, ◌&&◌, eqb, leb, List, [], ◌∷◌, ◌++◌, length, Some, None, Ok, refl, ap, ◌∙◌, ap₂, arith}
 use lib.Dec.{eqb-suc-zero}
 use Rattle.std.proofs.lemmas.List.{take_at}
-use Rattle.std.proofs.lemmas.Bool.{and_from}
-use Rattle.std.proofs.lemmas.Bool.Decides.{nat_tests}
+use Rattle.std.proofs.lemmas.Bool.{and_from, le-leb}
 use Rattle.crc.specs.Crc.{crc32c}
 use Rattle.event.specs.Bytes.{Bytes, byte, le32}
 use Rattle.event.specs.Refusals.{Question, first_no}
@@ -18,13 +17,10 @@ use Rattle.wire.proofs.Buffers.{length-checked}
 use Rattle.wire.proofs.Frames.{checked-is}
 use Rattle.wire.proofs.ItemLists.{length-items}
 
-at_most : (a b : ℕ) → a ≤ b → leb a b ≡ true
-at_most a b h = grind (arith, nat_tests)
-
 items-fit : (items : List Item) → items_fit (length items) (items_bytes items) ≡ true
 unfolding items_fit items_bytes
 items-fit [] = refl
-items-fit (i ∷ is) = and_from _ _ (at_most 3 (length (items_bytes (i ∷ is))) (let h = length-items is in omega arith)) (items-fit is)
+items-fit (i ∷ is) = and_from _ _ (le-leb 3 (length (items_bytes (i ∷ is))) (let h = length-items is in omega arith)) (items-fit is)
 
 switch : (on : Bool) → leb 0x80 (cond on 0x80 0) ≡ on
 switch true = refl
@@ -34,7 +30,7 @@ items_back : (items : List Item) → items_in (length items) (items_bytes items)
 unfolding items_in items_bytes
 items_back [] = refl
 items_back (i ∷ is) =
-    let there = at_most 3 (length (items_bytes (i ∷ is))) (let h = length-items is in omega arith) in
+    let there = le-leb 3 (length (items_bytes (i ∷ is))) (let h = length-items is in omega arith) in
     let a = switch i.on in
     let b = items_back is in
     ap (λ (v : Bool). cond v (record { identifier = i.identifier; on = leb 0x80 (cond i.on 0x80 0) } ∷ items_in (length is) (items_bytes is)) []) there
@@ -105,11 +101,11 @@ module _ (delay retry : ℕ) (items : List Item) (few : length items ≤ 64) whe
       let t = total in
       let h = header in
       let b = bounds in
-      let lengths = and_from _ _ (at_most 5 (header_length bytes) (omega arith))
-      (and_from _ _ (at_most (header_length bytes) (total_length bytes) (omega arith)) (at_most (total_length bytes) (length bytes - 20) (omega arith))) in
-      let room = and_from _ _ (at_most 25 (length bytes) (omega arith)) (at_most (length bytes) 4224 (omega arith)) in
+      let lengths = and_from _ _ (le-leb 5 (header_length bytes) (omega arith))
+      (and_from _ _ (le-leb (header_length bytes) (total_length bytes) (omega arith)) (le-leb (total_length bytes) (length bytes - 20) (omega arith))) in
+      let room = and_from _ _ (le-leb 25 (length bytes) (omega arith)) (le-leb (length bytes) 4224 (omega arith)) in
       let fits : AllYes (request_questions bytes) =
-      (room, (type_right, (check_right, (kind_right, (flags_right, (lengths, (at_most (total_length bytes - header_length bytes) 4096 (omega arith), (ap₂ items_fit counted part ∙ items-fit items, tt)))))))) in
+      (room, (type_right, (check_right, (kind_right, (flags_right, (lengths, (le-leb (total_length bytes - header_length bytes) 4096 (omega arith), (ap₂ items_fit counted part ∙ items-fit items, tt)))))))) in
       all_yes (request_questions bytes) fits
 
   delays : (byte bytes 10 ≡ delay) × (byte bytes 9 ≡ retry) × (slot_of bytes ≡ false)

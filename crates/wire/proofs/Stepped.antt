@@ -1,43 +1,39 @@
 -- The items of an enable list, one step at a time. Assumes nothing.
-use Rattle.std.proofs.Common.{◌≡◌, ℕ, zero, suc, ◌-◌, ◌<◌, Bool, true, false, cond, ◌&&◌, [], ◌∷◌, length, take, drop, sym, refl, ap, ◌∙◌, arith}
-use Rattle.std.proofs.lemmas.List.{take_rest}
+use Rattle.std.proofs.Common.{◌≡◌, ℕ, zero, suc, ◌+◌, ◌<◌, ◌≤◌, Bool, true, false, cond, ◌&&◌, eqb, [], ◌∷◌, length, drop, refl, ap, ◌∙◌, add-one, arith}
+use lib.Dec.{eqb-suc-suc, eqb-zero-suc}
+use Rattle.std.proofs.lemmas.Bool.Decides.{nat_tests}
 use Rattle.event.specs.Bytes.{Bytes, byte}
 use Rattle.wire.specs.Requests.{has_item, item_at, items_fit, items_in}
 
--- what is left behind the first item, as a part of a slice
-abbrev pub behind : Bytes → Bytes
-behind part = take (length part - byte part 0) (drop (byte part 0) part)
-
-pub fit_none : (n : ℕ) (part : Bytes) → 0 < n → false ≡ has_item part → items_fit n part ≡ false
-unfolding items_fit
-fit_none zero part h e = absurd (omega arith)
-fit_none (suc n) part h e = ap (λ (b : Bool). b && items_fit n (drop (byte part 0) part)) (sym e)
-
-pub fit_more : (n : ℕ) (part : Bytes) → 0 < n → true ≡ has_item part → items_fit n part ≡ items_fit (n - 1) (behind part)
-unfolding items_fit
-fit_more zero part h e = absurd (omega arith)
-fit_more (suc n) part h e =
-    let k : n ≡ suc n - 1 = omega arith in
-    ap (λ (b : Bool). b && items_fit n (drop (byte part 0) part)) (sym e) ∙ (λ i. items_fit (k i) (sym (take_rest part (byte part 0)) i))
-
-pub fit_end : (n : ℕ) (part : Bytes) → n ≡ 0 → items_fit n part ≡ true
-unfolding items_fit
-fit_end zero part h = refl
-fit_end (suc n) part h = absurd (omega arith)
-
-pub in_none : (n : ℕ) (part : Bytes) → false ≡ has_item part → items_in n part ≡ []
+-- no item stands at the front
+pub in_none : (part : Bytes) → (3 ≤ byte part 0 → byte part 0 ≤ length part → ⊥) → (n : ℕ) → items_in n part ≡ []
 unfolding items_in
-in_none zero part e = refl
-in_none (suc n) part e = ap (λ (b : Bool). cond b (item_at part ∷ items_in n (drop (byte part 0) part)) []) (sym e)
+in_none part h zero = refl
+in_none part h (suc n) =
+    let none : has_item part ≡ false = grind (arith, nat_tests) in
+    ap (λ (b : Bool). cond b (item_at part ∷ items_in n (drop (byte part 0) part)) []) none
 
-pub in_more : (n : ℕ) (part : Bytes) → 0 < n → true ≡ has_item part → items_in n part ≡ item_at part ∷ items_in (n - 1) (behind part)
+-- one does
+pub in_more : (part : Bytes) → 3 ≤ byte part 0 → byte part 0 ≤ length part → (n : ℕ) → items_in (n + 1) part ≡ item_at part ∷ items_in n (drop (byte part 0) part)
 unfolding items_in
-in_more zero part h e = absurd (omega arith)
-in_more (suc n) part h e =
-    let k : n ≡ suc n - 1 = omega arith in
-    ap (λ (b : Bool). cond b (item_at part ∷ items_in n (drop (byte part 0) part)) []) (sym e) ∙ (λ i. item_at part ∷ items_in (k i) (sym (take_rest part (byte part 0)) i))
+in_more part low high n =
+    let there : has_item part ≡ true = grind (arith, nat_tests) in
+    ap (λ (k : ℕ). items_in k part) (add-one n) ∙ ap (λ (b : Bool). cond b (item_at part ∷ items_in n (drop (byte part 0) part)) []) there
 
-pub in_end : (n : ℕ) (part : Bytes) → n ≡ 0 → items_in n part ≡ []
+-- so many items fit if so many are read
+pub fit_by_number : (n : ℕ) (part : Bytes) → eqb (length (items_in n part)) n ≡ items_fit n part
+unfolding items_in items_fit
+fit_by_number zero part = refl
+fit_by_number (suc n) part =
+    let rest = drop (byte part 0) part in
+    let more = fit_by_number n rest in
+    elim (has_item part) as (λ (b : Bool). eqb (length (cond b (item_at part ∷ items_in n rest) [])) (suc n) ≡ (b && items_fit n rest)) [
+      | true ↦ eqb-suc-suc (length (items_in n rest)) n ∙ more
+      | false ↦ eqb-zero-suc n
+    ]
+
+-- none are left
+pub in_end : (n : ℕ) (part : Bytes) → n < 1 → items_in n part ≡ []
 unfolding items_in
 in_end zero part h = refl
 in_end (suc n) part h = absurd (omega arith)

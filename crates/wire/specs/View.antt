@@ -22,7 +22,7 @@ pub data Read : Type 0 where
 
 -- what a message says
 abbrev pub read_by : Message → Read
-read_by (Sync slot delay retry items) = request (sync_read slot (left items) delay.0 retry.0)
+read_by (Sync slot delays items) = request (sync_read slot (left items) delays.first.0 delays.retry.0)
 read_by (Ack slot list) = request (ack_read slot)
 read_by (Event generation retries list) = event (record { generation = generation; retries = retries; told = told_by list })
 read_by (Answer slot list) = answer (record { slot = slot; told = told_by list })

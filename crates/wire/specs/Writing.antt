@@ -1,5 +1,5 @@
 -- What the writers of messages leave in their buffers. Assumes nothing.
-use Rattle.std.specs.Prelude.{ℕ, Bool, not, List, [], ◌∷◌, length, nat_eq, nat_le}
+use Rattle.std.specs.Prelude.{ℕ, Bool, not, List, [], ◌∷◌, length, map, nat_eq, nat_le}
 use Rattle.keys.specs.Keys.{twice}
 use Rattle.event.specs.Bytes.{within}
 use Rattle.event.specs.Sources.{Occurrence}
@@ -21,8 +21,7 @@ writes_answer room slot os = unless (first_no (ask (nat_le 4115 room) AnswerBuff
 
 -- the identifiers of items
 abbrev pub identifiers : List Item → List ℕ
-identifiers [] = []
-identifiers (i ∷ is) = i.identifier ∷ identifiers is
+identifiers = map (λ i. i.identifier)
 
 -- what is asked of the items of a sync
 abbrev pub item_questions : List Item → List Question

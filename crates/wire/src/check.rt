@@ -10,12 +10,9 @@ use crc::crc32c;
 pub(crate) fn is_checked(bytes: &[u8]) -> bool
     ensures { result ≡ is_checked bytes.now }
 {
-    if bytes.len() < 4 {
-        return false;
-    }
-    let end = bytes.len() - 4;
-    let word = crc32c(&bytes[0..end]).to_le_bytes();
-    bytes.ends_with(&word)
+    bytes
+        .split_last_chunk::<4>()
+        .is_some_and(|(message, word)| *word == crc32c(message).to_le_bytes())
 }
 
 /// Writes `part` from the place `at` on, and says where it ends.
@@ -35,6 +32,6 @@ pub(crate) fn put_check(buffer: &mut [u8], end: usize) -> usize
     ensures end { result ≡ end + 4 }
     ensures buffer { buffer.new ≡ placed buffer.old end (le32 (crc_of (take end buffer.old))) }
 {
-    let word = crc32c(&buffer[0..end]).to_le_bytes();
+    let word = crc32c(&buffer[..end]).to_le_bytes();
     put(buffer, end, &word)
 }

@@ -1,9 +1,10 @@
 //! Writers of event messages and answers.
-ghost use Rattle.std.specs.Prelude.{◌≡◌, Bool, true, length};
+ghost use Rattle.std.specs.Prelude.{◌≡◌, ◌+◌, ◌++◌, Bool, true, length};
 ghost use Rattle.event.specs.Outcomes.{Gives};
-ghost use Rattle.board.specs.Boards.{ids};
-ghost use Rattle.marks.specs.Marking.{occurrences};
-ghost use Rattle.marks.specs.View.{marks_of};
+ghost use Rattle.list.specs.Lists.{told, list_bytes};
+ghost use Rattle.marks.specs.View.{occurrences_in};
+ghost use Rattle.marks.specs.Written.{Written};
+ghost use Rattle.wire.specs.Checks.{checked};
 ghost use Rattle.wire.specs.Laws.{EventsReadBack, AnswersReadBack};
 ghost use Rattle.wire.specs.Messages.{answer_head};
 ghost use Rattle.wire.specs.Writing.{writes_event, writes_answer};
@@ -11,15 +12,19 @@ ghost use Rattle.wire.specs.Writing.{writes_event, writes_answer};
 use crate::check::{put, put_check};
 use board::Board;
 use event::refusal::Refusal;
-use marks::types::Marks;
-use marks::write::put_list;
+use marks::types::Marked;
+
+// What stands before the list of an event message.
+pub(crate) const EVENT_HEAD: [u8; 4] = [0x84, 0x28, 0, 0];
+
+// The most bytes of a list and of the check word behind it.
+const LIST_AND_CHECK: usize = 4107;
 
 // What stands before the list of an answer.
 pub(crate) fn answer_head(slot: bool) -> [u8; 8]
     ensures { result ≡ answer_head slot }
 {
-    let kind = if slot { 0x89 } else { 0x88 };
-    [0x84, kind, 0, 0, 0, 0, 0, 0]
+    [0x84, 0x88 + u8::from(slot), 0, 0, 0, 0, 0, 0]
 }
 
 /// Writes the event message of the marked sources of a board to the front of the buffer, and counts its bytes. The
@@ -27,38 +32,40 @@ pub(crate) fn answer_head(slot: bool) -> [u8; 8]
 pub fn write_event<B: Board>(
     buffer: &mut [u8],
     transmission: u8,
-    board: &B,
-    marks: &Marks,
+    marked: &Marked<'_, B>,
 ) -> Result<usize, Refusal>
-    ensures wrote { Gives (writes_event (length buffer.old) transmission (occurrences (ids (B.Board.told board.now)) (marks_of marks.now))) buffer.old buffer.new result }
+    ensures wrote { Gives (writes_event (length buffer.old) transmission (occurrences_in B.Board.told marked.now)) buffer.old buffer.new result }
     ensures back { EventsReadBack }
 {
-    if buffer.len() < 4111 {
-        return Err(Refusal::TickBufferShort);
-    }
-    let start = put(buffer, 0, &[0x84, 0x28, 0, 0]);
-    let Some(n) = put_list(&mut buffer[4..], transmission, board, marks) else {
-        return Err(Refusal::TickBufferShort);
-    };
-    Ok(put_check(buffer, start + n))
+    write_framed(buffer, &EVENT_HEAD, transmission, marked).ok_or(Refusal::TickBufferShort)
 }
 
 /// Writes the answer that lists the marked sources of a board to the front of the buffer, and counts its bytes.
 pub fn write_answer<B: Board>(
     buffer: &mut [u8],
     slot: bool,
-    board: &B,
-    marks: &Marks,
+    marked: &Marked<'_, B>,
 ) -> Result<usize, Refusal>
-    ensures wrote { Gives (writes_answer (length buffer.old) slot (occurrences (ids (B.Board.told board.now)) (marks_of marks.now))) buffer.old buffer.new result }
+    ensures wrote { Gives (writes_answer (length buffer.old) slot (occurrences_in B.Board.told marked.now)) buffer.old buffer.new result }
     ensures back { AnswersReadBack }
 {
-    if buffer.len() < 4115 {
-        return Err(Refusal::AnswerBufferShort);
+    write_framed(buffer, &answer_head(slot), 0, marked).ok_or(Refusal::AnswerBufferShort)
+}
+
+// Writes a head, the list of the marked sources of a board and the check word to the front of the buffer, and counts
+// their bytes, unless the buffer is too short for the longest list.
+fn write_framed<B: Board>(
+    buffer: &mut [u8],
+    head: &[u8],
+    transmission: u8,
+    marked: &Marked<'_, B>,
+) -> Option<usize>
+    ensures { Written (length head.now + 4107) (checked (head.now ++ list_bytes transmission (told (occurrences_in B.Board.told marked.now)))) buffer.old buffer.new result }
+{
+    if buffer.len() < head.len() + LIST_AND_CHECK {
+        return None;
     }
-    let start = put(buffer, 0, &answer_head(slot));
-    let Some(n) = put_list(&mut buffer[8..], 0, board, marks) else {
-        return Err(Refusal::AnswerBufferShort);
-    };
-    Ok(put_check(buffer, start + n))
+    let start = put(buffer, 0, head);
+    let n = marked.put_list(&mut buffer[start..], transmission)?;
+    Some(put_check(buffer, start + n))
 }

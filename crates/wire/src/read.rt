@@ -9,9 +9,9 @@ ghost use Rattle.wire.specs.View.{reads_by, event_in, answer_in, request_in};
 
 use crate::check::is_checked;
 use crate::items::items_fit;
-use crate::message::answer_head;
+use crate::message::{EVENT_HEAD, answer_head};
 use crate::types::{Items, Message};
-use event::delay::{Seconds, Tenths};
+use event::delay::{Delays, Seconds, Tenths};
 use event::refusal::Refusal;
 use list::read::read_list;
 use list::types::ListRead;
@@ -21,9 +21,7 @@ pub fn read_event<'a>(bytes: &'a [u8]) -> Result<Message<'a>, Refusal>
     ensures said { reads_by result ≡ event_in (read_event bytes.now) }
     ensures only { OnlyEvent }
 {
-    let Some(read) = read_framed(&[0x84, 0x28, 0, 0], bytes) else {
-        return Err(Refusal::UnlawfulMessage);
-    };
+    let read = read_framed(&EVENT_HEAD, bytes).ok_or(Refusal::UnlawfulMessage)?;
     Ok(Message::Event {
         generation: read.transmission / 8,
         retries: read.transmission % 8,
@@ -37,12 +35,9 @@ pub fn read_answer<'a>(bytes: &'a [u8]) -> Result<Message<'a>, Refusal>
     ensures only { OnlyAnswer }
 {
     let slot = slot_of(bytes);
-    let Some(read) = read_framed(&answer_head(slot), bytes) else {
-        return Err(Refusal::UnlawfulAnswer);
-    };
-    if read.transmission != 0 {
-        return Err(Refusal::UnlawfulAnswer);
-    }
+    let read = read_framed(&answer_head(slot), bytes)
+        .filter(|read| read.transmission == 0)
+        .ok_or(Refusal::UnlawfulAnswer)?;
     Ok(Message::Answer {
         slot,
         list: read.list,
@@ -53,31 +48,19 @@ pub fn read_answer<'a>(bytes: &'a [u8]) -> Result<Message<'a>, Refusal>
 fn slot_of(bytes: &[u8]) -> bool
     ensures { result ≡ slot_of bytes.now }
 {
-    if bytes.len() < 2 {
-        return false;
-    }
-    bytes[1] % 2 == 1
+    bytes.get(1).is_some_and(|kind| kind % 2 == 1)
 }
 
 // The list between a head and the check word.
 fn read_framed<'a>(head: &[u8], bytes: &'a [u8]) -> Option<ListRead<'a>>
     ensures { listing_if result ≡ read_framed head.now bytes.now }
 {
-    let start = head.len();
-    if bytes.len() < 4 {
-        return None;
-    }
-    let end = bytes.len() - 4;
-    if end < start {
-        return None;
-    }
-    if !bytes.starts_with(head) {
-        return None;
-    }
+    let (message, _) = bytes.split_last_chunk::<4>()?;
+    let list = message.strip_prefix(head)?;
     if !is_checked(bytes) {
         return None;
     }
-    read_list(&bytes[start..end])
+    read_list(list)
 }
 
 /// Reads a request, of any length and content. The first question that is answered no is the refusal. What the book writes is
@@ -94,10 +77,7 @@ pub fn read_request<'a>(bytes: &'a [u8]) -> Result<Message<'a>, Refusal>
 fn read_asked<'a>(bytes: &'a [u8]) -> Result<Message<'a>, Refusal>
     ensures { reads_by result ≡ request_in (read_as (first_no (request_questions bytes.now)) bytes.now) }
 {
-    if bytes.len() < 25 {
-        return Err(Refusal::RequestLength);
-    }
-    if bytes.len() > 4224 {
+    if !(25..=4224).contains(&bytes.len()) {
         return Err(Refusal::RequestLength);
     }
     if bytes[0] != 0x84 {
@@ -127,15 +107,9 @@ fn read_enable_list<'a>(bytes: &'a [u8]) -> Result<Message<'a>, Refusal>
     requires { 25 ≤ length bytes.now }
     ensures { reads_by result ≡ request_in (read_as (first_no (enable_questions bytes.now)) bytes.now) }
 {
-    let header = bytes[20] as usize;
-    let total = bytes[18] as usize + bytes[19] as usize * 256;
-    if header < 5 {
-        return Err(Refusal::EnableLengths);
-    }
-    if total < header {
-        return Err(Refusal::EnableLengths);
-    }
-    if total > bytes.len() - 20 {
+    let header = usize::from(bytes[20]);
+    let total = usize::from(u16::from_le_bytes([bytes[18], bytes[19]]));
+    if header < 5 || !(header..=bytes.len() - 20).contains(&total) {
         return Err(Refusal::EnableLengths);
     }
     if total - header > 4096 {
@@ -146,17 +120,18 @@ fn read_enable_list<'a>(bytes: &'a [u8]) -> Result<Message<'a>, Refusal>
     if !items_fit(bytes[16], part) {
         return Err(Refusal::EnableItems);
     }
-    let slot = bytes[1] % 2 == 1;
     if bytes[16] == 0 {
         return Ok(Message::Ack {
-            slot,
-            list: &list[0..total],
+            slot: slot_of(bytes),
+            list: &list[..total],
         });
     }
     Ok(Message::Sync {
-        slot,
-        delay: Seconds(bytes[10]),
-        retry: Tenths(bytes[9]),
+        slot: slot_of(bytes),
+        delays: Delays {
+            first: Seconds(bytes[10]),
+            retry: Tenths(bytes[9]),
+        },
         items: Items {
             number: bytes[16],
             rest: part,

@@ -8,32 +8,25 @@ ghost use Rattle.wire.specs.Writing.{identifiers, writes_sync, writes_ack};
 
 use crate::check::{put, put_check};
 use crate::types::Item;
-use event::delay::{Seconds, Tenths};
+use arrayvec::ArrayVec;
+use event::delay::{Delays, Seconds, Tenths};
 use event::refusal::Refusal;
 use keys::has_twice;
 
 /// Writes a sync of these items to the front of the buffer, and counts its bytes.
-pub fn write_sync(
-    buffer: &mut [u8],
-    items: &[Item],
-    delay: Seconds,
-    retry: Tenths,
-) -> Result<usize, Refusal>
-    ensures { Gives (writes_sync (length buffer.old) items.now delay.0 retry.0) buffer.old buffer.new result }
+pub fn write_sync(buffer: &mut [u8], items: &[Item], delays: Delays) -> Result<usize, Refusal>
+    ensures { Gives (writes_sync (length buffer.old) items.now delays.first.0 delays.retry.0) buffer.old buffer.new result }
 {
     if buffer.len() < 217 {
         return Err(Refusal::RequestBufferShort);
     }
-    if items.is_empty() {
-        return Err(Refusal::ItemCount);
-    }
-    if items.len() > 64 {
+    if !(1..=64).contains(&items.len()) {
         return Err(Refusal::ItemCount);
     }
     if names_twice(items) {
         return Err(Refusal::IdentifierTwice);
     }
-    Ok(put_request(buffer, items, delay, retry))
+    Ok(put_request(buffer, items, delays))
 }
 
 /// Writes an ack to the front of the buffer, and counts its bytes.
@@ -43,7 +36,11 @@ pub fn write_ack(buffer: &mut [u8]) -> Result<usize, Refusal>
     if buffer.len() < 217 {
         return Err(Refusal::RequestBufferShort);
     }
-    Ok(put_request(buffer, &[], Seconds(0), Tenths(0)))
+    let none = Delays {
+        first: Seconds(0),
+        retry: Tenths(0),
+    };
+    Ok(put_request(buffer, &[], none))
 }
 
 // Whether an identifier stands in two items.
@@ -51,14 +48,15 @@ fn names_twice(items: &[Item]) -> bool
     requires { length items.now ≤ 64 }
     ensures { result ≡ twice nat_eq (identifiers items.now) }
 {
-    let mut row = [0; 64];
-    for (i, item) in items.iter().enumerate() {
-        row[i] = item.identifier;
+    // A loop: `extend` may find the vector full, and would have to be asked whether it did.
+    let mut row = ArrayVec::<u8, 64>::new();
+    for item in items {
+        row.push(item.identifier);
     }
-    has_twice(&row[0..items.len()])
+    has_twice(&row)
 }
 
-// The third byte of an item.
+// The third byte of an item. An `if`, since `u8::from(on) << 7` says less.
 fn switch(on: bool) -> u8
     ensures { result ≡ (if on then 0x80 else 0) }
 {
@@ -71,6 +69,7 @@ fn put_items(buffer: &mut [u8], start: usize, items: &[Item]) -> usize
     ensures end { result ≡ start + 3 * length items.now }
     ensures buffer { buffer.new ≡ placed buffer.old start (items_bytes items.now) }
 {
+    // The place is kept here: of what an `iter_mut` in a `zip` wrote, a proof knows nothing.
     let mut at = start;
     for item in items {
         at = put(buffer, at, &[3, item.identifier, switch(item.on)]);
@@ -79,25 +78,21 @@ fn put_items(buffer: &mut [u8], start: usize, items: &[Item]) -> usize
 }
 
 // Writes a request to the front of the buffer, and counts its bytes.
-fn put_request(buffer: &mut [u8], items: &[Item], delay: Seconds, retry: Tenths) -> usize
+fn put_request(buffer: &mut [u8], items: &[Item], delays: Delays) -> usize
     requires few { length items.now ≤ 64 }
     requires room { 217 ≤ length buffer.old }
-    ensures end { result ≡ length (request_message delay.0 retry.0 items.now) }
-    ensures buffer { buffer.new ≡ over_front (request_message delay.0 retry.0 items.now) buffer.old }
+    ensures end { result ≡ length (request_message delays.first.0 delays.retry.0 items.now) }
+    ensures buffer { buffer.new ≡ over_front (request_message delays.first.0 delays.retry.0 items.now) buffer.old }
 {
+    let Delays { first, retry } = delays;
     let head = [
-        0x84, 0x08, 0, 0, 3, 0, 0, 0, 4, retry.0, delay.0, 0, 0, 0, 0, 0,
+        0x84, 0x08, 0, 0, 3, 0, 0, 0, 4, retry.0, first.0, 0, 0, 0, 0, 0,
     ];
-    let total = 5 + 3 * items.len();
-    let header = [
-        items.len() as u8,
-        0,
-        (total % 256) as u8,
-        (total / 256) as u8,
-        5,
-    ];
+    let number = items.len() as u8;
+    let [low, high] = (5 + 3 * u16::from(number)).to_le_bytes();
+    let header = [number, 0, low, high, 5];
     let list = put(buffer, 0, &head);
-    let first = put(buffer, list, &header);
-    let end = put_items(buffer, first, items);
+    let start = put(buffer, list, &header);
+    let end = put_items(buffer, start, items);
     put_check(buffer, end)
 }

@@ -1,5 +1,5 @@
 //! Messages as they are read: each has its list as a part of the bytes that it was read from.
-use event::delay::{Seconds, Tenths};
+use event::delay::Delays;
 use list::types::OccurrenceList;
 
 /// The two requests.
@@ -19,6 +19,8 @@ pub struct Item {
 }
 
 /// The items of an enable list that are left to read.
+// The occurrences of a list have a type of the same shape: one for both would need a trait of what splits a part off, with a
+// law that is longer than either.
 #[derive(Clone, Copy)]
 pub struct Items<'a> {
     pub(crate) number: u8,
@@ -31,8 +33,7 @@ pub enum Message<'a> {
     /// Switches events on and off, and asks for the readings of all that are on.
     Sync {
         slot: bool,
-        delay: Seconds,
-        retry: Tenths,
+        delays: Delays,
         items: Items<'a>,
     },
     /// Acknowledges an event message, and asks for what changed since.

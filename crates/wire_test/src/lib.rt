@@ -8,60 +8,41 @@ mod tests {
     use board::drive::DriveBoard;
     use board::table::TableBoard;
     use crc::crc32c;
-    use event::delay::{Seconds, Tenths};
+    use event::delay::{Delays, Seconds, Tenths};
     use event::id::UniqueId;
     use event::occurrence::Occurrence;
     use event::reading::Reading;
     use event::refusal::Refusal;
-    use marks::types::Marks;
-    use marks::write::put_list;
+    use marks::types::{Marked, Marks};
     use std::test::Fail;
     use wire::message::write_event;
     use wire::read::{read_event, read_request};
     use wire::request::write_sync;
     use wire::types::{Item, Message};
 
-    // One byte of a message changed, and the number of the refusal that this must bring; 0 where it is still read.
+    // One byte of a message changed, and the number of the refusal that this must bring; none where it is still read.
     struct Damage {
         place: usize,
         byte: u8,
-        number: u8,
+        number: Option<u8>,
     }
 
-    // The check word of the first n bytes, written behind them.
-    fn seal(buffer: &mut [u8], n: usize) {
-        if n > buffer.len() || buffer.len() - n < 4 {
-            return;
-        }
-        let word = crc32c(&buffer[0..n]).to_le_bytes();
-        buffer[n..n + 4].copy_from_slice(&word);
-    }
-
-    // The number of a refusal, 0 where there is none.
-    fn number_of(read: Result<Message, Refusal>) -> u8 {
-        match read {
-            Ok(_) => 0,
-            Err(refusal) => refusal.number(),
+    // The check word of a message, written into its last four bytes.
+    fn seal(message: &mut [u8]) {
+        if let Some((rest, word)) = message.split_last_chunk_mut::<4>() {
+            *word = crc32c(rest).to_le_bytes();
         }
     }
 
-    // The number that a request brings.
-    fn request_number(bytes: &[u8]) -> u8 {
-        number_of(read_request(bytes))
-    }
-
-    // The number that an event message brings.
-    fn event_number(bytes: &[u8]) -> u8 {
-        number_of(read_event(bytes))
+    // The number of the refusal, if there is one.
+    fn number_of(read: Result<Message, Refusal>) -> Option<u8> {
+        read.err().map(Refusal::number)
     }
 
     // A source of a vendor's event in a namespace of this number, with a reading of so many bytes.
     fn vendor(number: u32, length: usize) -> Occurrence {
         let bytes = [0xA5; 64];
-        let reading = match Reading::new(&bytes[0..length.min(64)]) {
-            Some(reading) => reading,
-            None => Reading::empty(),
-        };
+        let reading = Reading::new(&bytes[0..length.min(64)]).unwrap_or_default();
         let id = UniqueId {
             identifier: 0xC0,
             scope: 0,
@@ -89,112 +70,112 @@ mod tests {
         Damage {
             place: 0,
             byte: 0x85,
-            number: 3,
+            number: Some(3),
         },
         Damage {
             place: 1,
             byte: 0x10,
-            number: 5,
+            number: Some(5),
         },
         Damage {
             place: 4,
             byte: 0x04,
-            number: 5,
+            number: Some(5),
         },
         Damage {
             place: 8,
             byte: 0x05,
-            number: 5,
+            number: Some(5),
         },
         Damage {
             place: 2,
             byte: 0x01,
-            number: 6,
+            number: Some(6),
         },
         Damage {
             place: 2,
             byte: 0x02,
-            number: 6,
+            number: Some(6),
         },
         Damage {
             place: 20,
             byte: 0x04,
-            number: 7,
+            number: Some(7),
         },
         Damage {
             place: 20,
             byte: 0x09,
-            number: 7,
+            number: Some(7),
         },
         Damage {
             place: 18,
             byte: 0x04,
-            number: 7,
+            number: Some(7),
         },
         Damage {
             place: 18,
             byte: 0x09,
-            number: 7,
+            number: Some(7),
         },
         Damage {
             place: 19,
             byte: 0x01,
-            number: 7,
+            number: Some(7),
         },
         Damage {
             place: 21,
             byte: 0x02,
-            number: 9,
+            number: Some(9),
         },
         Damage {
             place: 21,
             byte: 0x04,
-            number: 9,
+            number: Some(9),
         },
         Damage {
             place: 16,
             byte: 0x02,
-            number: 9,
+            number: Some(9),
         },
         Damage {
             place: 1,
             byte: 0x0F,
-            number: 0,
+            number: None,
         },
         Damage {
             place: 2,
             byte: 0x04,
-            number: 0,
+            number: None,
         },
         Damage {
             place: 3,
             byte: 0xFF,
-            number: 0,
+            number: None,
         },
         Damage {
             place: 5,
             byte: 0xFF,
-            number: 0,
+            number: None,
         },
         Damage {
             place: 11,
             byte: 0xFF,
-            number: 0,
+            number: None,
         },
         Damage {
             place: 17,
             byte: 0x07,
-            number: 0,
+            number: None,
         },
         Damage {
             place: 16,
             byte: 0x00,
-            number: 0,
+            number: None,
         },
         Damage {
             place: 22,
             byte: 0x77,
-            number: 0,
+            number: None,
         },
     ];
 
@@ -202,107 +183,107 @@ mod tests {
         Damage {
             place: 0,
             byte: 0x85,
-            number: 25,
+            number: Some(25),
         },
         Damage {
             place: 1,
             byte: 0x29,
-            number: 25,
+            number: Some(25),
         },
         Damage {
             place: 2,
             byte: 0x01,
-            number: 25,
+            number: Some(25),
         },
         Damage {
             place: 3,
             byte: 0x01,
-            number: 25,
+            number: Some(25),
         },
         Damage {
             place: 4,
             byte: 0x00,
-            number: 25,
+            number: Some(25),
         },
         Damage {
             place: 4,
             byte: 0x02,
-            number: 25,
+            number: Some(25),
         },
         Damage {
             place: 5,
             byte: 0x01,
-            number: 25,
+            number: Some(25),
         },
         Damage {
             place: 6,
             byte: 0x12,
-            number: 25,
+            number: Some(25),
         },
         Damage {
             place: 7,
             byte: 0x01,
-            number: 25,
+            number: Some(25),
         },
         Damage {
             place: 8,
             byte: 0x80,
-            number: 25,
+            number: Some(25),
         },
         Damage {
             place: 9,
             byte: 0x08,
-            number: 25,
+            number: Some(25),
         },
         Damage {
             place: 11,
             byte: 0x08,
-            number: 25,
+            number: Some(25),
         },
         Damage {
             place: 12,
             byte: 0x00,
-            number: 25,
+            number: Some(25),
         },
         Damage {
             place: 12,
             byte: 0x02,
-            number: 25,
+            number: Some(25),
         },
         Damage {
             place: 13,
             byte: 0x01,
-            number: 25,
+            number: Some(25),
         },
         Damage {
             place: 14,
             byte: 0x0C,
-            number: 25,
+            number: Some(25),
         },
         Damage {
             place: 14,
             byte: 0x0B,
-            number: 25,
+            number: Some(25),
         },
         Damage {
             place: 15,
             byte: 0x01,
-            number: 25,
+            number: Some(25),
         },
         Damage {
             place: 19,
             byte: 0x01,
-            number: 25,
+            number: Some(25),
         },
         Damage {
             place: 10,
             byte: 0xFF,
-            number: 0,
+            number: None,
         },
         Damage {
             place: 20,
             byte: 0xFF,
-            number: 0,
+            number: None,
         },
     ];
 
@@ -312,14 +293,16 @@ mod tests {
         let mut drive = DriveBoard::new(7);
         assert!(rt; drive.set(6, &[0x1E]));
         let mut marks = Marks::none();
-        let Some(reading) = drive.reading(6) else {
-            return Err(Fail::new("the drive has no temperature"));
-        };
+        let reading = drive.reading(6).ok_or("the drive has no temperature")?;
         assert!(rt; marks.mark(6, reading));
+        let marked = Marked {
+            board: &drive,
+            marks: &marks,
+        };
         let mut buffer = [0xEE; 4111];
-        assert_eq!(rt; write_event(&mut buffer, 8, &drive, &marks).ok(), Some(25));
+        assert_eq!(rt; write_event(&mut buffer, 8, &marked).ok(), Some(25));
         let mut expected = EVENT;
-        seal(&mut expected, 21);
+        seal(&mut expected);
         assert!(rt; buffer[0..25] == expected[0..25]);
         assert_eq!(rt; buffer[25], 0xEE);
         Ok(())
@@ -330,11 +313,11 @@ mod tests {
     fn body_limit(rt: HostRuntime) {
         assert_eq!(rt;
             list_of(55, 63),
-            (Some(4103), [0x39, 0x00, 0x07, 0x10, 0x00, 0x07, 0xF8])
+            Some((4103, [0x39, 0x00, 0x07, 0x10, 0x00, 0x07, 0xF8]))
         );
         assert_eq!(rt;
             list_of(56, 0),
-            (Some(7), [0x00, 0x00, 0x00, 0x00, 0x80, 0x07, 0xF8])
+            Some((7, [0x00, 0x00, 0x00, 0x00, 0x80, 0x07, 0xF8]))
         );
     }
 
@@ -346,12 +329,13 @@ mod tests {
             identifier: 0x06,
             on: true,
         }];
-        assert_eq!(rt;
-            write_sync(&mut buffer, &items, Seconds(5), Tenths(20)).ok(),
-            Some(28)
-        );
+        let delays = Delays {
+            first: Seconds(5),
+            retry: Tenths(20),
+        };
+        assert_eq!(rt; write_sync(&mut buffer, &items, delays).ok(), Some(28));
         let mut expected = REQUEST;
-        seal(&mut expected, 24);
+        seal(&mut expected);
         assert!(rt; buffer[0..28] == expected[0..28]);
         assert_eq!(rt; buffer[28], 0xEE);
     }
@@ -365,99 +349,70 @@ mod tests {
         bytes[18] = 0x0B;
         bytes[24] = 3;
         bytes[25] = 0x06;
-        seal(&mut bytes, 27);
-        let Ok(
-            Message::Sync {
-                slot: _,
-                delay: _,
-                retry: _,
-                mut items,
-            },
-        ) = read_request(&bytes)
-        else {
+        seal(&mut bytes);
+        let Ok(Message::Sync { items, .. }) = read_request(&bytes) else {
             return Err(Fail::new("no sync"));
         };
-        assert_eq!(rt; switch_of(items.next()), (0x06, true));
-        assert_eq!(rt; switch_of(items.next()), (0x06, false));
-        assert!(rt; items.next().is_none());
+        let mut switches = items.map(|item| (item.identifier, item.on));
+        assert_eq!(rt; switches.next(), Some((0x06, true)));
+        assert_eq!(rt; switches.next(), Some((0x06, false)));
+        assert!(rt; switches.next().is_none());
         Ok(())
     }
 
     // Each damaged request with a right check word, and the three that no changed byte makes.
     #[test]
     fn damaged_requests(rt: HostRuntime) {
-        assert_eq!(rt; wrong_request(), None);
-        assert_eq!(rt; request_number(&REQUEST), 4);
-        assert_eq!(rt; request_number(&REQUEST[0..24]), 2);
-        assert_eq!(rt; request_number(&[0x84; 4225]), 2);
+        assert_eq!(rt; first_wrong(read_request, REQUEST, &DAMAGED_REQUESTS), None);
+        assert_eq!(rt; number_of(read_request(&REQUEST)), Some(4));
+        assert_eq!(rt; number_of(read_request(&REQUEST[0..24])), Some(2));
+        assert_eq!(rt; number_of(read_request(&[0x84; 4225])), Some(2));
         let mut long = [0u8; 4224];
         long[0..28].copy_from_slice(&REQUEST);
         long[18] = 0x06;
         long[19] = 0x10;
-        seal(&mut long, 4220);
-        assert_eq!(rt; request_number(&long), 8);
+        seal(&mut long);
+        assert_eq!(rt; number_of(read_request(&long)), Some(8));
     }
 
     // Each damaged event message with a right check word; one with a wrong check word; one with an ID twice.
     #[test]
     fn damaged_events(rt: HostRuntime) {
-        assert_eq!(rt; wrong_event(), None);
-        assert_eq!(rt; event_number(&EVENT), 25);
+        assert_eq!(rt; first_wrong(read_event, EVENT, &DAMAGED_EVENTS), None);
+        assert_eq!(rt; number_of(read_event(&EVENT)), Some(25));
         let mut twice = [0u8; 35];
         twice[0..21].copy_from_slice(&EVENT[0..21]);
         twice[21..31].copy_from_slice(&EVENT[11..21]);
         twice[4] = 2;
         twice[6] = 0x1B;
-        seal(&mut twice, 31);
-        assert_eq!(rt; event_number(&twice), 25);
+        seal(&mut twice);
+        assert_eq!(rt; number_of(read_event(&twice)), Some(25));
         twice[24] = 0x07;
-        seal(&mut twice, 31);
-        assert_eq!(rt; event_number(&twice), 0);
+        seal(&mut twice);
+        assert_eq!(rt; number_of(read_event(&twice)), None);
     }
 
-    // The number that a damaged request brings.
-    fn damaged_request(damage: &Damage) -> u8 {
-        let mut bytes = REQUEST;
-        if damage.place < 24 {
-            bytes[damage.place] = damage.byte;
-        }
-        seal(&mut bytes, 24);
-        request_number(&bytes)
-    }
-
-    // The first damaged request that brings another number than it must.
-    fn wrong_request() -> Option<usize> {
-        for (i, damage) in DAMAGED_REQUESTS.iter().enumerate() {
-            if damaged_request(damage) != damage.number {
-                return Some(i);
+    // The first damage that, with a right check word, brings another number than it must.
+    fn first_wrong<F: Fn(&[u8]) -> Result<Message<'_>, Refusal>, const N: usize>(
+        read: F,
+        message: [u8; N],
+        damages: &[Damage],
+    ) -> Option<usize>
+        requires { F.IsAlwaysCallable read }
+    {
+        damages.iter().position(|damage| {
+            let mut bytes = message;
+            if let Some(byte) = bytes.get_mut(damage.place) {
+                *byte = damage.byte;
             }
-        }
-        None
-    }
-
-    // The number that a damaged event message brings.
-    fn damaged_event(damage: &Damage) -> u8 {
-        let mut bytes = EVENT;
-        if damage.place < 21 {
-            bytes[damage.place] = damage.byte;
-        }
-        seal(&mut bytes, 21);
-        event_number(&bytes)
-    }
-
-    // The first damaged event message that brings another number than it must.
-    fn wrong_event() -> Option<usize> {
-        for (i, damage) in DAMAGED_EVENTS.iter().enumerate() {
-            if damaged_event(damage) != damage.number {
-                return Some(i);
-            }
-        }
-        None
+            seal(&mut bytes);
+            number_of(read(&bytes)) != damage.number
+        })
     }
 
     // The list of so many vendor sources with readings of 64 bytes, one of `last` bytes (if any) and one of none, at
     // generation 31: its length and its header.
-    fn list_of(full: usize, last: usize) -> (Option<usize>, [u8; 7]) {
+    fn list_of(full: usize, last: usize) -> Option<(usize, [u8; 7])> {
         let mut rows = [vendor(0, 64); 57];
         let mut marks = Marks::none();
         for (i, row) in rows.iter_mut().enumerate() {
@@ -471,21 +426,13 @@ mod tests {
             *row = vendor(i as u32, length);
             let _marked = marks.mark(i, row.reading);
         }
-        let mut header = [0u8; 7];
-        let Ok(board) = TableBoard::new(&rows) else {
-            return (None, header);
+        let board = TableBoard::new(&rows).ok()?;
+        let marked = Marked {
+            board: &board,
+            marks: &marks,
         };
         let mut out = [0u8; 4103];
-        let n = put_list(&mut out, 0xF8, &board, &marks);
-        header.copy_from_slice(&out[0..7]);
-        (n, header)
-    }
-
-    // The identifier and the switch of an item.
-    fn switch_of(item: Option<Item>) -> (u8, bool) {
-        match item {
-            Some(item) => (item.identifier, item.on),
-            None => (0xFF, false),
-        }
+        let n = marked.put_list(&mut out, 0xF8)?;
+        Some((n, *out.first_chunk()?))
     }
 }

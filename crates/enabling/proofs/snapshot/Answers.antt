@@ -1,12 +1,12 @@
-use Rattle.std.proofs.Common.{◌<◌, Bool, cond, Some, ap, ◌∙◌, arith}
+use Rattle.std.proofs.Common.{◌≡◌, ◌<◌, Bool, cond, Some, ap, ◌∙◌, arith, rules}
 use Rattle.std.proofs.lemmas.Bool.{lt-ltb}
 use Rattle.event.specs.View.{held}
 use Rattle.marks.specs.Marking.{update}
 use Rattle.marks.specs.View.{marks_of}
 use Rattle.board.proofs.Rereads.{few_sources}
-use Rattle.enabling.proofs.Present.{none_yet, all_among, shot_marked, shot_never, shot_off, shot_past}
+use Rattle.enabling.proofs.Present.{Among, none_yet, shot_marked, shot_never, shot_off, shot_past}
 use Rattle.enabling.proofs.snapshot.Goals as goal
-use Rattle.enabling.proofs.snapshot.Goals.{in-Some+then-has+in-Some-reading, in-Some+then-has+in_default-reading, in-Some+else-has, in_default}
+use Rattle.enabling.proofs.snapshot.Goals.{in-Some+then-has+in-Some-reading, in_default, in_default-via-in-None-1, in_default-via-in-Some+else-has, in_default-via-in-Some+then-has+in-None-1}
 
 pub loop-place-init : goal.loop-place-init
 loop-place-init g c = c.none-marks.ensures ∙ none_yet c.args.set (g.B.Board.told c.args.board.now)
@@ -23,12 +23,11 @@ loop-place-preserved g c =
           shot_marked set told i w.in-Some.id (held w.in-Some-reading.reading) m (marks_of c.match-id.marks)
           w.in-Some.ensures w.if-has.ensures w.in-Some-reading.ensures c.loop-place.invariant
           (ap marks_of w.marks-is ∙ w.mark.ensures.after ∙ ap (λ (b : Bool). cond b (update m i (Some (held w.in-Some-reading.reading))) m) (lt-ltb i 64 below))
-      | in-Some+then-has+in_default-reading w ↦ absurd (shot_never set told i w.in-Some.id w.in-Some.ensures w.in_default-reading.ensures)
-      | in-Some+else-has w ↦ ap marks_of w.marks-is ∙ c.loop-place.invariant ∙ shot_off set told i w.in-Some.id w.in-Some.ensures w.if-has.ensures
-      | in_default w ↦ ap marks_of w.marks-is ∙ c.loop-place.invariant ∙ shot_past set told i w.in_default.ensures
+      | in_default w ↦
+          let kept : marks_of c.match-id.marks ≡ Among set told i = ap marks_of w.marks-is ∙ c.loop-place.invariant in
+          kept ∙ elim w.in_default.branch [
+            | in_default-via-in-None-1 v ↦ shot_past set told i (search rules)
+            | in_default-via-in-Some+else-has v ↦ shot_off set told i v.in-Some.id v.in-Some.ensures v.if-has.ensures
+            | in_default-via-in-Some+then-has+in-None-1 v ↦ absurd (shot_never set told i v.in-Some.id v.in-Some.ensures (search rules))
+          ]
     ]
-
-pub returns : goal.returns
-returns g c =
-    let told = g.B.Board.told c.args.board.now in
-    c.loop-place.invariant ∙ all_among c.args.set told c.loop-place.place (omega (arith, c.count-place-end.ensures))

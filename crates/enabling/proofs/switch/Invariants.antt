@@ -1,4 +1,4 @@
-use Rattle.std.proofs.Common.{◌≡◌, length}
+use Rattle.std.proofs.Common.{◌≡◌}
 use Rattle.board.specs.Boards.{ids}
 use Rattle.protocol.specs.Endpoint.{enabling}
 use Rattle.wire.specs.View.{left}
@@ -6,7 +6,4 @@ use Rattle.enabling.proofs.switch.Given as goal
 
 -- what is left to apply gives what the whole gives
 abbrev pub invariant-loop-item : goal.invariant-loop-item
-invariant-loop-item g l = enabling (ids (g.B.Board.told l.board)) (left l.rest) l.words ≡ enabling (ids (g.B.Board.told l.board)) (left l.items) l.initial.words
-
-abbrev pub decreases-loop-item : goal.decreases-loop-item
-decreases-loop-item g l = length (left l.rest)
+invariant-loop-item g l = enabling (ids (g.B.Board.told l.board)) (left l.item-iterator) l.words ≡ enabling (ids (g.B.Board.told l.board)) (left l.fn.items) l.fn.set

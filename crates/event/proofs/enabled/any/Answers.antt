@@ -1,24 +1,19 @@
-use Rattle.std.proofs.Common.{◌+◌, ◌<◌, ◌≤◌, Bool, not, ◌||◌, length, get_or, drop, sym, ap, ◌∙◌, rules, eq-eqb, ne_eqb}
-use Rattle.std.proofs.lemmas.List.{at_drop_more, at_drop_all}
-use Rattle.event.specs.Identifiers.{any}
+-- A set differs from the empty one exactly if one of its words is not 0.
+use Rattle.std.proofs.Common.{◌≡◌, ℕ, zero, suc, Bool, true, false, not, ◌&&◌, ◌||◌, eqb, [], ◌∷◌, length, replicate, refl, ap, ◌∙◌, arith}
+use Rattle.std.specs.Cmp.Lexicographic.{pointwise}
+use Rattle.event.specs.Identifiers.{Words, any}
 use Rattle.event.proofs.enabled.any.Goals as goal
 
-pub returns-then-word-ne0 : goal.returns-then-word-ne0
-returns-then-word-ne0 c =
-    let s = c.args.set in
-    let i = c.loop-word.word-index in
-    let h : i < length s = search rules in
-    sym (sym c.loop-word.invariant ∙ at_drop_more any s i 0 h ∙ ap (λ (b : Bool). not b || any (drop (i + 1) s)) (ne_eqb (get_or s i 0) 0 c.if-word-ne0.true))
+not_both : (a b : Bool) → not (a && b) ≡ (not a || not b)
+not_both true b = refl
+not_both false b = refl
 
-pub loop-word-preserved : goal.loop-word-preserved
-loop-word-preserved c =
-    let s = c.args.set in
-    let i = c.loop-word.word-index in
-    let h : i < length s = search rules in
-    sym (at_drop_more any s i 0 h ∙ ap (λ (b : Bool). not b || any (drop (i + 1) s)) (eq-eqb (get_or s i 0) 0 c.if-word-ne0.false)) ∙ c.loop-word.invariant
+not_nothing : (n : ℕ) (words : Words) → length words ≡ n → not (pointwise eqb words (replicate n 0)) ≡ any words
+not_nothing zero [] e = refl
+not_nothing zero (w ∷ ws) e = absurd (omega arith)
+not_nothing (suc n) [] e = absurd (omega arith)
+not_nothing (suc n) (w ∷ ws) e =
+    not_both (eqb w 0) (pointwise eqb ws (replicate n 0)) ∙ ap (λ b. not (eqb w 0) || b) (not_nothing n ws (omega arith))
 
 pub returns : goal.returns
-returns c =
-    let s = c.args.set in
-    let h : length s ≤ c.loop-word.word-index = search rules in
-    sym (sym c.loop-word.invariant ∙ at_drop_all any s c.loop-word.word-index h)
+returns c = let words = not_nothing 4 c.args.set (omega arith) in cc

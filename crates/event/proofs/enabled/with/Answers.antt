@@ -1,7 +1,7 @@
-use Rattle.std.proofs.Common.{◌≡◌, ℕ, ◌-◌, ◌*◌, ◌/◌, ◌%◌, ◌^◌, ◌<◌, Bool, List, length, get_or, set, sym, ap, ◌∙◌, arith, rules}
+use Rattle.std.proofs.Common.{◌≡◌, ℕ, ◌-◌, ◌*◌, ◌/◌, ◌%◌, ◌^◌, ◌<◌, Bool, true, false, cond, List, length, get_or, set, sym, ap, ◌∙◌, arith, rules}
 use lib.Bits.{bit_or, bit_and}
 use Rattle.std.proofs.lemmas.Nat.{one_shl, mod_below}
-use Rattle.event.specs.Identifiers.{has, switched}
+use Rattle.event.specs.Identifiers.{Words, has, switched}
 use Rattle.event.proofs.Digits.{switches}
 use Rattle.event.proofs.enabled.with.Goals as goal
 
@@ -9,20 +9,25 @@ use Rattle.event.proofs.enabled.with.Goals as goal
 the-bit : (i : ℕ) → 1 * 2 ^ (i % 64) % 2 ^ 64 ≡ 2 ^ (i % 64)
 the-bit i = one_shl (i % 64) 64 (mod_below i 64 (omega arith))
 
-pub returns-then-on : goal.returns-then-on
+-- the bit is set or cleared in the word at the place
+written : (on b : Bool) (s : Words) (i place : ℕ) → on ≡ b → place ≡ i / 64 →
+    (let word = get_or s place 0 in let bit = 1 * 2 ^ (i % 64) % 2 ^ 64 in set s place (cond b (bit_or word bit) (bit_and word (2 ^ 64 - 1 - bit)))) ≡ switched on i s
 unfolding switched
+written on b s i place is at =
+    λ k. set s (at k) (cond (sym is k) (bit_or (get_or s (at k) 0) (the-bit i k)) (bit_and (get_or s (at k) 0) (2 ^ 64 - 1 - the-bit i k)))
+
+pub returns-then-on : goal.returns-then-on
 returns-then-on c =
     let i = c.args.identifier in
     let s = c.args.set in
     let h : i / 64 < length s = search rules in
-    let e = ap (λ (b : ℕ). set s (i / 64) (bit_or (get_or s (i / 64) 0) b)) (the-bit i) ∙ ap (λ (on : Bool). switched on i s) (sym c.if-on.true) in
+    let e = written c.args.on true s i c.from-place.result c.if-on.true c.from-place.ensures in
     record { words = e; others = λ j _. ap (λ (l : List ℕ). has l j) e ∙ switches s i c.args.on h j }
 
 pub returns-else-on : goal.returns-else-on
-unfolding switched
 returns-else-on c =
     let i = c.args.identifier in
     let s = c.args.set in
     let h : i / 64 < length s = search rules in
-    let e = ap (λ (b : ℕ). set s (i / 64) (bit_and (get_or s (i / 64) 0) (2 ^ 64 - 1 - b))) (the-bit i) ∙ ap (λ (on : Bool). switched on i s) (sym c.if-on.false) in
+    let e = written c.args.on false s i c.from-place.result c.if-on.false c.from-place.ensures in
     record { words = e; others = λ j _. ap (λ (l : List ℕ). has l j) e ∙ switches s i c.args.on h j }

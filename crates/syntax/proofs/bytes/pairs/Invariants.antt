@@ -1,11 +1,8 @@
 -- the bytes so far, and then those of the pairs that are left
-use Rattle.std.proofs.Common.{◌≡◌, length, vec_items}
+use Rattle.std.proofs.Common.{◌≡◌, drop, vec_items}
 use Rattle.syntax.specs.Strings.{pairs_of}
-use Rattle.syntax.proofs.Rows.{after}
+use Rattle.syntax.proofs.Rows.{after, said_by}
 use Rattle.syntax.proofs.bytes.pairs.Given as goal
 
-abbrev pub invariant-loop-rest : goal.invariant-loop-rest
-invariant-loop-rest l = after (vec_items l.bytes) (pairs_of l.rest) ≡ pairs_of l.word
-
-abbrev pub decreases-loop-rest : goal.decreases-loop-rest
-decreases-loop-rest l = length l.rest
+abbrev pub invariant-loop-high : goal.invariant-loop-high
+invariant-loop-high l = after (vec_items l.bytes) (said_by l.rest (drop l.high-index l.pairs)) ≡ pairs_of l.word

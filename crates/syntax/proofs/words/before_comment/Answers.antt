@@ -1,17 +1,15 @@
-use Rattle.std.proofs.Common.{◌≡◌, ◌-◌, ◌++◌, take, sym, ap, ◌∙◌, append-nil, arith}
-use Rattle.syntax.proofs.Cuts.{comment_here, comment_later, comment_none}
+use Rattle.std.proofs.Common.{eqb, sym, ◌∙◌, rules, tests}
+use Rattle.std.proofs.lemmas.Iterator.{YieldsList-from_slice}
+use Rattle.std.proofs.lemmas.Iterator.Search.{position_from_yields_List}
+use Rattle.syntax.proofs.Cuts.{uncommented-found, uncommented-none}
 use Rattle.syntax.proofs.words.before_comment.Goals as goal
 
-pub returns-then-byte-eq35 : goal.returns-then-byte-eq35
-returns-then-byte-eq35 c =
-    let e : c.loop-i.i - 0 ≡ c.loop-i.i = omega arith in
-    ap (λ n. take n c.args.line.now) e
-    ∙ sym (append-nil (take c.loop-i.i c.args.line.now))
-    ∙ ap (λ l. take c.loop-i.i c.args.line.now ++ l) (sym (comment_here c.args.line.now c.loop-i.i c.loop-i-test.true c.if-byte-eq35.true))
-    ∙ c.loop-i.invariant
+pub returns-in-Some : goal.returns-in-Some
+returns-in-Some c =
+    uncommented-found c.args.line.now c.in-Some.end
+    (sym c.in-Some.is ∙ position_from_yields_List (λ b. eqb b 35) _ _ c.position.result c.position.ensures.ran (YieldsList-from_slice c.args.line.now cc) (λ x b q k. search (rules, tests)))
 
-pub loop-i-preserved : goal.loop-i-preserved
-loop-i-preserved c = comment_later c.args.line.now c.loop-i.i c.loop-i-test.true c.if-byte-eq35.false ∙ c.loop-i.invariant
-
-pub returns : goal.returns
-returns c = sym (comment_none c.args.line.now c.loop-i.i c.loop-i-test.false) ∙ c.loop-i.invariant
+pub returns-in-None : goal.returns-in-None
+returns-in-None c =
+    uncommented-none c.args.line.now
+    (sym c.in-None.is ∙ position_from_yields_List (λ b. eqb b 35) _ _ c.position.result c.position.ensures.ran (YieldsList-from_slice c.args.line.now cc) (λ x b q k. search (rules, tests)))

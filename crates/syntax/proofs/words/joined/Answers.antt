@@ -2,8 +2,8 @@ use Rattle.std.proofs.Common.{◌≡◌, ◌≤◌, length, vec_items, sym, ◌�
 use Rattle.syntax.proofs.Cuts.{spaced-none, spaced-start, led-turn, led_end}
 use Rattle.syntax.proofs.words.joined.Goals as goal
 
-pub returns-in_default : goal.returns-in_default
-returns-in_default c = let e : length c.args.words.now ≡ 0 = search rules in c.new-text.ensures.items ∙ sym (spaced-none c.args.words.now e)
+pub returns-in_default-clause-text : goal.returns-in_default-clause-text
+returns-in_default-clause-text c = let e : length c.args.words.now ≡ 0 = search rules in c.new-text.ensures.items ∙ sym (spaced-none c.args.words.now e)
 
 pub loop-word-init : goal.loop-word-init
 loop-word-init c =
@@ -15,5 +15,5 @@ loop-word-preserved c =
     led-turn _ _ c.loop-word.word-index _ _ _ c.loop-word-test.true c.in_ok-push.ensures.items c.in_ok-extend_from_slice-2.ensures.items
     ∙ c.loop-word.invariant
 
-pub returns : goal.returns
-returns c = led_end _ c.loop-word.word-index _ c.loop-word-test.false ∙ c.loop-word.invariant
+pub returns-clause-text : goal.returns-clause-text
+returns-clause-text c = led_end _ c.loop-word.word-index _ c.loop-word-test.false ∙ c.loop-word.invariant

@@ -1,14 +1,10 @@
-use Rattle.std.proofs.Common.{sym, ◌∙◌, arith}
-use Rattle.wire.proofs.Stepped.{fit_none, fit_more, fit_end}
+use Rattle.std.proofs.Common.{refl, ◌∙◌, ap₂, eqb}
+use Rattle.std.proofs.lemmas.Iterator.Consumers.{YieldsList-from_first, count_from_yields_List}
+use Rattle.wire.specs.View.{left}
+use Rattle.wire.proofs.Stepped.{fit_by_number}
 use Rattle.wire.proofs.items.items_fit.Goals as goal
 
-pub returns-then-not-has_item : goal.returns-then-not-has_item
-returns-then-not-has_item c =
-    sym (fit_none c.loop-number.number c.loop-number.rest.now c.loop-number-test.true c.if-not-has_item.ensures) ∙ c.loop-number.invariant
-
-pub loop-number-preserved : goal.loop-number-preserved
-loop-number-preserved c =
-    sym (fit_more c.loop-number.number c.loop-number.rest.now c.loop-number-test.true c.if-not-has_item.ensures) ∙ c.loop-number.invariant
-
 pub returns : goal.returns
-returns c = sym (fit_end c.loop-number.number c.loop-number.rest.now (omega arith)) ∙ c.loop-number.invariant
+returns c =
+    let all = count_from_yields_List _ _ c.count.ensures.ran (YieldsList-from_first (λ x. x) left _ refl) in
+    ap₂ eqb all c.from.ensures ∙ fit_by_number c.args.number c.args.part.now

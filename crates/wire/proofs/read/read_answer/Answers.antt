@@ -3,13 +3,9 @@ use Rattle.wire.specs.Messages.{read_answer}
 use Rattle.std.proofs.Common.{rules}
 use Rattle.wire.proofs.read.read_answer.Goals as goal
 
-pub returns-in_default : goal.returns-in_default
+pub returns-in_err-read : goal.returns-in_err-read
 unfolding read_answer
-returns-in_default c = record { said = search rules; only = only-answer }
-
-pub returns-then-read-ne0 : goal.returns-then-read-ne0
-unfolding read_answer
-returns-then-read-ne0 c = record { said = search rules; only = only-answer }
+returns-in_err-read c = record { said = search rules; only = only-answer }
 
 pub returns : goal.returns
 unfolding read_answer

@@ -1,6 +1,7 @@
-use Rattle.std.proofs.Common.{sym, arith}
-use Rattle.board.proofs.Tables.{length-table}
+use Rattle.std.proofs.Common.{sym, ◌∙◌}
+use Rattle.std.proofs.lemmas.List.{length-map}
+use Rattle.event.specs.View.{occurrence_of}
 use Rattle.board.proofs.table.TableBoardBoard.count.Goals as goal
 
 pub returns : goal.returns
-returns c = let t = c.args.self.now in sym (length-table t.ids t.readings t.count (omega arith) (omega arith))
+returns c = c.len.ensures.value ∙ sym (length-map c.args.self.now.rows.items occurrence_of)

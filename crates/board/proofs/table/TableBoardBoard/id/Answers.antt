@@ -1,18 +1,9 @@
-use Rattle.std.proofs.Common.{sym, ◌∙◌, arith}
-use Rattle.board.specs.Boards.{ids}
-use Rattle.board.specs.Tables.{table_sources}
-use Rattle.board.proofs.Rereads.{length_ids, at_past}
-use Rattle.board.proofs.Tables.{length-table, table-id}
+use Rattle.std.proofs.Common.{rules, sym, ◌∙◌}
+use Rattle.board.proofs.Tables.{id_row, looked}
 use Rattle.board.proofs.table.TableBoardBoard.id.Goals as goal
 
-pub returns-then-place-self : goal.returns-then-place-self
-returns-then-place-self c =
-    let t = c.args.self.now in
-    sym (table-id t.ids t.readings t.count c.args.place _ (omega arith) (omega arith) (omega arith))
-
-pub returns-else-place-self : goal.returns-else-place-self
-returns-else-place-self c =
-    let t = c.args.self.now in
-    let told = table_sources t.ids t.readings t.count in
-    let long = length_ids told ∙ length-table t.ids t.readings t.count (omega arith) (omega arith) in
-    sym (at_past (ids told) c.args.place (omega arith))
+pub returns : goal.returns
+returns c =
+    let rows = c.args.self.now.rows.items in
+    looked c.get.result c.map.result (λ row. row.id) rows c.args.place c.deref.ensures.0 c.get.ensures.lookup c.map.ensures.cases (λ x y q. search rules)
+    ∙ sym (id_row rows c.args.place)

@@ -1,18 +1,10 @@
-use Rattle.std.proofs.Common.{sym, ap, arith}
-use Rattle.board.specs.Boards.{reading_of}
-use Rattle.board.specs.Tables.{table_sources}
-use Rattle.board.proofs.Rereads.{at_past}
-use Rattle.board.proofs.Tables.{length-table, table-reading}
+use Rattle.std.proofs.Common.{rules, sym, ap, ◌∙◌}
+use Rattle.event.specs.View.{held_if}
+use Rattle.board.proofs.Tables.{reading_row, looked}
 use Rattle.board.proofs.table.TableBoardBoard.reading.Goals as goal
 
-pub returns-then-place-self : goal.returns-then-place-self
-returns-then-place-self c =
-    let t = c.args.self.now in
-    sym (table-reading t.ids t.readings t.count c.args.place _ (omega arith) (omega arith) (omega arith))
-
-pub returns-else-place-self : goal.returns-else-place-self
-returns-else-place-self c =
-    let t = c.args.self.now in
-    let told = table_sources t.ids t.readings t.count in
-    let long = length-table t.ids t.readings t.count (omega arith) (omega arith) in
-    sym (ap reading_of (at_past told c.args.place (omega arith)))
+pub returns : goal.returns
+returns c =
+    let rows = c.args.self.now.rows.items in
+    ap held_if (looked c.get.result c.map.result (λ row. row.reading) rows c.args.place c.deref.ensures.0 c.get.ensures.lookup c.map.ensures.cases (λ x y q. search rules))
+    ∙ sym (reading_row rows c.args.place)

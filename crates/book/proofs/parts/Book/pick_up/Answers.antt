@@ -1,5 +1,5 @@
 use Rattle.std.proofs.Common.{refl, rules}
-use Rattle.book.specs.View.{book_in}
+use Rattle.book.proofs.Questions.{all_asked}
 use Rattle.book.proofs.Picked.{pick_heard, fetch-inside}
 use Rattle.book.proofs.parts.Book.pick_up.Goals as goal
 
@@ -12,5 +12,5 @@ slice_bounds-hear-end g c =
 pub returns : goal.returns
 returns g c =
     let line = g.C.Carrier.carried c.args.carrier.now in
-    pick_heard line (book_in c.args.self.now) (book_in c.hear.new.self) c.args.buffer.now c.fetch.new.buffer _ c.in_ok-count.count c.hear.result
-    c.in_default.ensures c.in_ok-count.ensures.result c.fetch.ensures.buffer refl c.hear.ensures
+    pick_heard line c.args.self.now c.hear.new.self c.args.buffer.now c.fetch.new.buffer _ c.in_ok-count.count c.hear.result
+    (all_asked _ c.in_ok-may_show.ensures) c.in_ok-count.ensures.result c.fetch.ensures.buffer refl c.hear.ensures

@@ -9,27 +9,28 @@ use Rattle.wire.specs.Requests.{request_message}
 use Rattle.wire.specs.Writing.{item_questions}
 use Rattle.protocol.specs.Book.{awaits_nothing, sync_questions}
 use Rattle.book.specs.Turns.{request_questions}
-use Rattle.book.specs.View.{book_in}
-use Rattle.book.proofs.Questions.{one_no, yes_between, not_written, writer_refuses}
+use Rattle.book.proofs.Questions.{all_asked, asked_no, one_no, yes_between, not_written, writer_refuses}
 use Rattle.book.proofs.parts.Book.write_sync.Goals as goal
 
-pub returns-in-Some : goal.returns-in-Some
-returns-in-Some c =
-    let k = book_in c.args.self.now in
+pub returns-in_err-may_write : goal.returns-in_err-may_write
+returns-in_err-may_write c =
+    let p = err_from_is_err_and c.from_residual.result c.from_residual.ensures.1 in
+    let r = c.in_err-may_write.field-0.0 in
+    let k = c.args.self.now in
     let items = c.args.items.now in
     let room = length c.args.buffer.now in
-    not_written Sync _ (request_message c.args.delay.0 c.args.retry.0 items) k c.args.buffer.now c.in-Some.refusal
-    (one_no (request_questions k.phase room) (item_questions items) c.in-Some.refusal c.in-Some.ensures)
+    rw (p.1, p.2) (not_written Sync _ (request_message c.args.delays.first.0 c.args.delays.retry.0 items) k c.args.buffer.now r
+    (one_no (request_questions k.phase room) (item_questions items) r (asked_no _ r c.in_err-may_write.ensures)))
 
 pub returns-in_err-count : goal.returns-in_err-count
 returns-in_err-count c =
-    let p = err_from_is_err_and c.from_residual.result c.from_residual.ensures.1 in
-    let k = book_in c.args.self.now in
+    let p = err_from_is_err_and c.from_residual-in_err-count.result c.from_residual-in_err-count.ensures.1 in
+    let k = c.args.self.now in
     let items = c.args.items.now in
     let before = c.args.buffer.now in
     let after = c.write_sync.new.buffer in
     let r = c.in_err-count.field-0.0 in
-    let bytes = request_message c.args.delay.0 c.args.retry.0 items in
-    let asked = yes_between (leb 217 (length before)) (awaits_nothing k.phase) RequestBufferShort StillAwaiting (item_questions items) c.in_default.ensures in
+    let bytes = request_message c.args.delays.first.0 c.args.delays.retry.0 items in
+    let asked = yes_between (leb 217 (length before)) (awaits_nothing k.phase) RequestBufferShort StillAwaiting (item_questions items) (all_asked _ c.in_ok-may_write.ensures) in
     rw (p.1, p.2) (writer_refuses Sync (first_no (sync_questions k.phase (length before) items)) bytes k before after r
     (subst (λ (q : Option Refusal). Gives (unless q bytes) before after (Err r)) asked c.in_err-count.ensures))

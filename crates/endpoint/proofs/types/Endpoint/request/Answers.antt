@@ -17,7 +17,7 @@ returns-in_err-slot g c = record {
 pub returns-in-Sync : goal.returns-in-Sync
 returns-in-Sync g c = record {
   mask = search rules;
-  turn = asked _ _ _ _ _ _ _ _ _ _ _ (Sync c.in-Sync.slot (left c.in-Sync.items) c.in-Sync.delay.0 c.in-Sync.retry.0) (omega arith)
+  turn = asked _ _ _ _ _ _ _ _ _ _ _ (Sync c.in-Sync.slot (left c.in-Sync.items) c.in-Sync.delays.first.0 c.in-Sync.delays.retry.0) (omega arith)
       (ap (λ (m : Message). Ok (read_by m)) (sym c.in-Sync.is) ∙ c.in_ok-slot.ensures.said)
       c.sync.ensures;
 }

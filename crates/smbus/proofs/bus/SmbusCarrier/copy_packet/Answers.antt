@@ -1,49 +1,45 @@
-use Rattle.std.proofs.Common.{List, [], map, length, sym, ap, ◌∙◌, arith}
+use Rattle.std.proofs.Common.{◌<◌, ◌≤◌, length, sym, ap, ◌∙◌, arith, zero-add}
 use lib.ListN.{length-map}
-use Rattle.std.proofs.lemmas.List.{get_or-map}
-use Rattle.event.specs.Bytes.{Bytes, placed}
-use Rattle.event.proofs.Placed.{placed-none, placed_copy}
-use Rattle.smbus.specs.Packets.{chosen}
-use Rattle.smbus.specs.Stored.{held}
-use Rattle.smbus.specs.Lying.{shown, chosen_none, chosen_long, chosen_fits}
+use Rattle.std.proofs.lemmas.Grind.{common_steps}
+use Rattle.event.specs.Bytes.{placed}
+use Rattle.event.proofs.Placed.{placed-none}
+use Rattle.smbus.specs.Packets.{packets_on, copied_length}
+use Rattle.smbus.specs.Stored.{held, stored}
+use Rattle.smbus.specs.Seen.{line_of}
+use Rattle.smbus.specs.Lying.{shown, shown_at, copied_stored, chosen_none, chosen_long, chosen_fits}
 use Rattle.smbus.proofs.bus.SmbusCarrier.copy_packet.Goals as goal
 
-pub returns-then-number-packets : goal.returns-then-number-packets
-returns-then-number-packets c =
+pub returns-in_err-get-clause-buffer : goal.returns-in_err-get-clause-buffer
+returns-in_err-get-clause-buffer c =
+    let s = c.args.self.now in
     let buffer = c.args.buffer.now in
-    let row = c.stored-packets.result.now in
-    let none =
-    ap (λ (ps : List Bytes). chosen ps c.args.number (length buffer)) (shown c.args.self.now row c.stored-packets.ensures)
-    ∙ chosen_none (map held row) c.args.number (length buffer) (omega (arith, length-map row held)) in
-    record { count = sym (ap length none); buffer = sym (ap (placed buffer 0) none ∙ placed-none buffer 0) }
+    let ps = packets_on s.addresses (line_of s) in
+    let past : length ps ≤ c.args.number =
+    omega (arith, ap length (shown s), length-map s.packets.items held, ap length c.deref.ensures.0, c.in_err-get.ensures.lookup.3) in
+    sym (ap (placed buffer 0) (chosen_none ps c.args.number (length buffer) past) ∙ placed-none buffer 0)
 
-pub returns-then-buffer-len : goal.returns-then-buffer-len
-returns-then-buffer-len c =
+pub returns-then-buffer-len-clause-buffer : goal.returns-then-buffer-len-clause-buffer
+returns-then-buffer-len-clause-buffer c =
+    let s = c.args.self.now in
     let buffer = c.args.buffer.now in
-    let row = c.stored-packets.result.now in
-    let bytes = c.as_bytes-bytes.result.now in
-    let at =
-    get_or-map held row c.args.number c.index-packets-number.result [] (omega arith)
-    ∙ sym (c.as_bytes-bytes.ensures ∙ ap held c.index-packets-number.is) in
-    let none =
-    ap (λ (ps : List Bytes). chosen ps c.args.number (length buffer)) (shown c.args.self.now row c.stored-packets.ensures)
-    ∙ chosen_long (map held row) c.args.number (length buffer) bytes at (omega arith) in
-    record { count = sym (ap length none); buffer = sym (ap (placed buffer 0) none ∙ placed-none buffer 0) }
+    let ps = packets_on s.addresses (line_of s) in
+    let at = shown_at s c.deref.result.now c.args.number c.in_ok-get.field-0.now c.deref.ensures.0 c.in_ok-get.ensures.lookup.3.0 c.in_ok-get.ensures.lookup.1 ∙ sym c.as_bytes-bytes.ensures in
+    sym (ap (placed buffer 0) (chosen_long ps c.args.number (length buffer) c.as_bytes-bytes.result.now at (omega arith)) ∙ placed-none buffer 0)
 
-pub returns : goal.returns
-returns c =
+pub returns-clause-count : goal.returns-clause-count
+returns-clause-count c =
+    let s = c.args.self.now in
     let buffer = c.args.buffer.now in
-    let row = c.stored-packets.result.now in
-    let bytes = c.as_bytes-bytes.result.now in
-    let at =
-    get_or-map held row c.args.number c.index-packets-number.result [] (omega arith)
-    ∙ sym (c.as_bytes-bytes.ensures ∙ ap held c.index-packets-number.is) in
-    let fits =
-    ap (λ (ps : List Bytes). chosen ps c.args.number (length buffer)) (shown c.args.self.now row c.stored-packets.ensures)
-    ∙ chosen_fits (map held row) c.args.number (length buffer) bytes at (omega arith) in
-    record {
-      count = sym (ap length fits);
-      buffer =
-          placed_copy buffer 0 _ c.copy_from_slice.new.self bytes c.copy_from_slice.ensures.after (omega arith)
-          ∙ sym (ap (placed buffer 0) fits);
-    }
+    let ps = packets_on s.addresses (line_of s) in
+    let at = shown_at s c.deref.result.now c.args.number c.in_ok-get.field-0.now c.deref.ensures.0 c.in_ok-get.ensures.lookup.3.0 c.in_ok-get.ensures.lookup.1 ∙ sym c.as_bytes-bytes.ensures in
+    let here : c.args.number < length (stored s.packets) = omega (arith, length-map s.packets.items held, ap length c.deref.ensures.0, c.in_ok-get.ensures.lookup.3.0) in
+    sym (ap copied_length (chosen_fits ps c.args.number (length buffer) c.as_bytes-bytes.result.now at (omega arith)) ∙ copied_stored s c.args.number c.as_bytes-bytes.result.now here at)
+
+pub returns-clause-buffer : goal.returns-clause-buffer
+unfolding placed
+returns-clause-buffer c =
+    let s = c.args.self.now in
+    let buffer = c.args.buffer.now in
+    let ps = packets_on s.addresses (line_of s) in
+    let at = shown_at s c.deref.result.now c.args.number c.in_ok-get.field-0.now c.deref.ensures.0 c.in_ok-get.ensures.lookup.3.0 c.in_ok-get.ensures.lookup.1 ∙ sym c.as_bytes-bytes.ensures in
+    rw (chosen_fits ps c.args.number (length buffer) c.as_bytes-bytes.result.now at (omega arith)) (grind (arith, common_steps, zero-add))

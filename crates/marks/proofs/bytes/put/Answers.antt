@@ -1,6 +1,0 @@
-use Rattle.std.proofs.Common.{refl, arith}
-use Rattle.event.proofs.Placed.{placed_copy}
-use Rattle.marks.proofs.bytes.put.Goals as goal
-
-pub returns : goal.returns
-returns c = record { end = refl; out = placed_copy _ _ _ _ _ c.copy_from_slice.ensures.after (omega arith) }
