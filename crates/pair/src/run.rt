@@ -28,7 +28,8 @@ impl<B: Board, C: Carrier> Pair<B, C> {
         ensures note { note_of log.new ≡ note_after (outcome_if (pair_in B.told C.carried self.old) (call_for (pair_in B.told C.carried self.old) task.entry)) (note_of log.old) }
     {
         let room = task.lent();
-        log.reply = self.step(task.call, &mut log.buffer[0..room]);
+        let reply = self.step(task.call, &mut log.buffer[0..room]);
+        log.reply = reply;
     }
 
     // Every call of a list, each with its record.

@@ -8,10 +8,10 @@ pub returns : goal.returns
 returns g c =
     let p = pair_in g.B.Board.told g.C.Carrier.carried c.args.self.now in
     let fits : c.lent-room.result - 0 ≤ length c.args.log.now.buffer = omega (arith, c.lent-room.ensures.fits, c.args.log.now.long) in
-    let turn = part_steps p c.args.task _ c.args.log.now.buffer _ c.step-log.new.buffer (c.lent-room.result - 0) _ fits (omega (arith, c.lent-room.ensures.room)) refl c.step-log.auto.buffer c.step-log.ensures in
+    let turn = part_steps p c.args.task _ c.args.log.now.buffer _ c.step-reply.new.buffer (c.lent-room.result - 0) _ fits (omega (arith, c.lent-room.ensures.room)) refl c.step-reply.auto.buffer c.step-reply.ensures in
     record { pair = turn.pair; note = steps_note p (call_for p c.args.task) _ _ _ c.args.log.now.reply _ turn }
 
 pub invariant_of-log : goal.invariant_of-log
 invariant_of-log g c =
     let fits : c.lent-room.result - 0 ≤ length c.args.log.now.buffer = omega (arith, c.lent-room.ensures.fits, c.args.log.now.long) in
-    record { long = part_long c.args.log.now.buffer c.step-log.new.buffer (c.lent-room.result - 0) fits c.step-log.auto.buffer ∙ c.args.log.now.long }
+    record { long = part_long c.args.log.now.buffer c.step-reply.new.buffer (c.lent-room.result - 0) fits c.step-reply.auto.buffer ∙ c.args.log.now.long }
