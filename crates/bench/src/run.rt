@@ -1,0 +1,112 @@
+//! Scripts are run, and their records printed.
+use crate::lines::{BadLine, Script, Step};
+use crate::session::{Note, Session};
+use crate::setup::{Setup, at_line};
+use crate::words::Refused;
+use anyhow::{Result, anyhow};
+use script::command::{Action, Command};
+use std::fs;
+
+/// How often a call is made.
+pub fn times(action: &Action) -> usize {
+    match action {
+        Action::Tick { count } => *count,
+        _ => 1,
+    }
+}
+
+/// Prints the two lines of a call.
+pub fn print_note(rt: &HostRuntime, note: &Note) -> Result<()> {
+    let Note { call, standing } = note;
+    println!(rt; "{call}\n  {standing}")?;
+    Ok(())
+}
+
+/// The text of the script in a file.
+pub fn read_file(rt: &HostRuntime, name: &str) -> Result<Vec<u8>> {
+    fs::read(rt, name).map_err(|error| anyhow!("{name}: {error}"))
+}
+
+/// An error at a line that is no command.
+pub fn at_bad_line(bad: BadLine) -> anyhow::Error {
+    let BadLine { line, fault } = bad;
+    anyhow!("line {line}: {fault}")
+}
+
+// An error where the settings lack something: at the first call, or at the end.
+fn lacking(steps: &[Step], what: &str) -> anyhow::Error {
+    match steps {
+        [step, ..] => at_line(step.line, what),
+        [] => anyhow!("{what}"),
+    }
+}
+
+// A session on the board and the carrier of a script; none if one of them is refused, which is printed.
+fn open(rt: &HostRuntime, script: &Script) -> Result<Option<Session>> {
+    let heap = rt.alloc();
+    let (settings, steps) = script.parts();
+    let setup = Setup::read(heap, settings)?;
+    if let ([], Some(bad)) = (steps, script.bad) {
+        return Err(at_bad_line(bad));
+    }
+    if let Some(what) = setup.lacks() {
+        return Err(lacking(steps, what));
+    }
+    match setup.make() {
+        Some(Ok((board, carrier))) => Ok(Some(Session::new(heap, board, carrier))),
+        Some(Err(refusal)) => {
+            let refused = Refused(refusal);
+            println!(rt; "{refused}")?;
+            Ok(None)
+        }
+        None => Ok(None),
+    }
+}
+
+// Makes the calls of a script, and prints their record.
+fn work(rt: &HostRuntime, session: &mut Session, script: &Script) -> Result<()> {
+    let heap = rt.alloc();
+    let (_, steps) = script.parts();
+    for step in steps {
+        let Command::Call { action, text, room } = &step.command else {
+            return Err(at_line(step.line, "a setting after the first call"));
+        };
+        for _ in 0..times(action) {
+            let made = session.make(action, *room);
+            let note = session.note(heap, action, text, made)?;
+            print_note(rt, &note)?;
+        }
+    }
+    match script.bad {
+        Some(bad) => Err(at_bad_line(bad)),
+        None => Ok(()),
+    }
+}
+
+/// Runs a script and prints its record, but for the table at its end. Hands back the session, unless the board or the
+/// carrier is refused.
+pub fn run_calls(rt: &HostRuntime, text: &[u8]) -> Result<Option<Session>> {
+    let script = Script::read(rt.alloc(), text)?;
+    let Some(mut session) = open(rt, &script)? else {
+        return Ok(None);
+    };
+    match work(rt, &mut session, &script) {
+        Ok(()) => Ok(Some(session)),
+        Err(error) => {
+            session.end();
+            Err(error)
+        }
+    }
+}
+
+/// Runs a script and prints its record.
+pub fn run_script(rt: &HostRuntime, text: &[u8]) -> Result<()> {
+    let Some(mut session) = run_calls(rt, text)? else {
+        return Ok(());
+    };
+    let table = session.table(rt.alloc());
+    session.end();
+    let table = table?;
+    println!(rt; "{table}")?;
+    Ok(())
+}

@@ -1,0 +1,142 @@
+//! Both ends at work on a script.
+use crate::boards::NamedBoard;
+use crate::carriers::NamedCarrier;
+use crate::record::{packets, standing};
+use crate::words::{Reply, Text};
+use pair::call::{Call, Task};
+use pair::pair::Pair;
+use pair::record::Record;
+use script::command::Action;
+use std::alloc::{AllocError, Global};
+
+/// The request last written and the endpoint's latest answer, each empty if there is none.
+#[derive(Drop)]
+pub struct Latest {
+    request: Vec<u8>,
+    answer: Vec<u8>,
+}
+
+/// A pair, what its later calls take up, and how many calls were made. It cannot be let go: `end` ends its pair.
+pub struct Session {
+    pub pair: Pair<NamedBoard, NamedCarrier>,
+    pub latest: Latest,
+    pub calls: usize,
+}
+
+/// The record of a call: the line that repeats it and tells what it handed back, and where all stands after it.
+#[derive(Drop)]
+pub struct Note {
+    pub call: String,
+    pub standing: String,
+}
+
+impl Latest {
+    /// The call of an action; none for one that is no call of a pair.
+    pub fn call<'a>(&'a self, action: &'a Action) -> Option<Call<'a>> {
+        Some(match action {
+            Action::Change { place, reading } => Call::Change {
+                place: *place,
+                reading,
+            },
+            Action::Tick { .. } => Call::Tick,
+            Action::Up => Call::LinkUp,
+            Action::Down => Call::LinkDown,
+            Action::Lose => Call::Lose,
+            Action::Reset => Call::Reset,
+            Action::Sync { delays, items } => Call::WriteSync {
+                items,
+                delays: *delays,
+            },
+            Action::Ack => Call::WriteAck,
+            Action::Hand { sender, message } => Call::Request {
+                sender: *sender,
+                message: message.as_deref().unwrap_or(&self.request),
+            },
+            Action::Take { message } => Call::Answer {
+                bytes: message.as_deref().unwrap_or(&self.answer),
+            },
+            Action::GiveUp => Call::GiveUp,
+            Action::PickUp => Call::PickUp,
+            Action::Fetch => Call::Fetch,
+            Action::Show { id } => Call::Show { id: *id },
+            Action::Packets => return None,
+        })
+    }
+
+    /// Keeps the request that was written, or the endpoint's answer.
+    pub fn keep(
+        &mut self,
+        heap: Global,
+        action: &Action,
+        record: &Record,
+    ) -> Result<(), AllocError> {
+        let Some(Ok(count)) = record.reply() else {
+            return Ok(());
+        };
+        let written = record.buffer().get(..count).unwrap_or(&[]);
+        match action {
+            Action::Sync { .. } | Action::Ack => self.request = written.to_vec(heap)?,
+            Action::Hand { .. } => self.answer = written.to_vec(heap)?,
+            _ => {}
+        }
+        Ok(())
+    }
+}
+
+impl Session {
+    /// A new pair on this board and this carrier.
+    pub fn new(heap: Global, board: NamedBoard, carrier: NamedCarrier) -> Session {
+        Session {
+            pair: Pair::new(board, carrier),
+            latest: Latest {
+                request: Vec::new(heap),
+                answer: Vec::new(heap),
+            },
+            calls: 0,
+        }
+    }
+
+    /// Makes a call, with a buffer of this length, and says what it left; none for an action that is no call of a pair.
+    pub fn make(&mut self, action: &Action, room: usize) -> Option<Record> {
+        let call = self.latest.call(action)?;
+        let mut records = [Record::new()];
+        let _made = self.pair.run(&[Task { call, room }], &mut records);
+        let [record] = records;
+        Some(record)
+    }
+
+    /// Notes a call that was made: counts it, and keeps what later calls take up.
+    pub fn note(
+        &mut self,
+        heap: Global,
+        action: &Action,
+        text: &[u8],
+        made: Option<Record>,
+    ) -> Result<Note, AllocError> {
+        let told = match made {
+            Some(record) => {
+                self.latest.keep(heap, action, &record)?;
+                let reply = Reply(&record);
+                format!(in heap; "{reply}")?
+            }
+            None => packets(heap, self.pair.carrier())?,
+        };
+        self.calls = self.calls.saturating_add(1);
+        let number = self.calls;
+        let text = Text(text);
+        Ok(Note {
+            call: format!(in heap; "{number} {text}: {told}")?,
+            standing: standing(heap, &self.pair)?,
+        })
+    }
+
+    /// Ends the session.
+    pub fn end(self) {
+        let Session {
+            pair,
+            latest: _latest,
+            calls: _calls,
+        } = self;
+        let _parts = pair.end();
+    }
+}

@@ -1,0 +1,62 @@
+//! What the book shows, for people.
+use crate::session::Session;
+use crate::words::{Hex, HexByte, Refused};
+use board::Board;
+use event::id::UniqueId;
+use event::names::{EventName, ScopeName};
+use event::refusal::Refusal;
+use pair::record::Record;
+use script::command::Action;
+use std::alloc::{AllocError, Global};
+
+/// What a showing handed back, as a reading or why there is none.
+fn shown(heap: Global, record: &Record) -> Result<String, AllocError> {
+    match record.reply() {
+        Some(Ok(count)) => {
+            let reading = Hex(record.buffer().get(..count).unwrap_or(&[]));
+            format!(in heap; "{reading}")
+        }
+        Some(Err(refusal)) => {
+            let refused = Refused(refusal);
+            format!(in heap; "{refused}")
+        }
+        None => String::from_str(heap, "-"),
+    }
+}
+
+/// A line of the table: the event with its identifier, the scope with the scope ID info, and what is shown.
+fn row(heap: Global, id: UniqueId, shown: &str) -> Result<String, AllocError> {
+    let name = EventName(id.identifier);
+    let identifier = HexByte(id.identifier);
+    let event = format!(in heap; "{name} ({identifier})")?;
+    let event = event.as_str();
+    let name = ScopeName(id.scope);
+    let info = id.info;
+    let scope = format!(in heap; "{name} {info:08X}")?;
+    let scope = scope.as_str();
+    format!(in heap; "\n  {event:<52}{scope:<26}{shown}")
+}
+
+impl Session {
+    /// The table of what the book shows of each source of the board; or why it shows none of them.
+    pub fn table(&mut self, heap: Global) -> Result<String, AllocError> {
+        let mut text = String::from_str(heap, "book")?;
+        for place in 0..self.pair.board().count() {
+            let Some(id) = self.pair.board().id(place) else {
+                continue;
+            };
+            let Some(record) = self.make(&Action::Show { id }, 64) else {
+                continue;
+            };
+            let shown = shown(heap, &record)?;
+            if let Some(Err(Refusal::StillAwaiting | Refusal::BookBlind)) = record.reply() {
+                text.push_str("\n  ")?;
+                text.push_str(&shown)?;
+                break;
+            }
+            let row = row(heap, id, &shown)?;
+            text.push_str(&row)?;
+        }
+        Ok(text)
+    }
+}
