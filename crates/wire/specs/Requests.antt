@@ -56,6 +56,10 @@ total_length bytes = two (byte bytes 18) (byte bytes 19)
 abbrev pub header_length : Bytes → ℕ
 header_length bytes = byte bytes 20
 
+-- its bytes, up to the total
+abbrev pub list_part : Bytes → Bytes
+list_part bytes = take (total_length bytes) (drop 16 bytes)
+
 -- the bytes of its items, from the header's end to the total
 abbrev pub items_part : Bytes → Bytes
 items_part bytes = take (total_length bytes - header_length bytes) (drop (header_length bytes) (drop 16 bytes))

@@ -1,10 +1,11 @@
 -- What the values of the reader stand for. Assumes nothing.
-use Rattle.std.specs.Prelude.{List, Some, None, Ok, Err, Option, Result}
+use Rattle.std.specs.Prelude.{◌≡◌, List, Some, None, Ok, Err, Option, Result}
+use Rattle.event.specs.Bytes.{Bytes}
 use Rattle.event.specs.declared.refusal.Refusal.{Refusal}
 use Rattle.event.specs.declared.refusal.Refusal.TheVariants.{UnlawfulMessage, UnlawfulAnswer}
 use Rattle.list.specs.View.{told_by}
 use Rattle.wire.specs.Messages.{Event as EventRead, Answer as AnswerRead}
-use Rattle.wire.specs.Requests.{Request, Sync as sync_read, Ack as ack_read, items_in}
+use Rattle.wire.specs.Requests.{Request, Sync as sync_read, Ack as ack_read, items_in, list_part}
 use Rattle.wire.specs.declared.types.Item.{Item}
 use Rattle.wire.specs.declared.types.Items.{Items}
 use Rattle.wire.specs.declared.types.Message.{Message}
@@ -31,6 +32,11 @@ read_by (Answer slot list) = answer (record { slot = slot; told = told_by list }
 abbrev pub reads_by : Result Message Refusal → Result Read Refusal
 reads_by (Ok m) = Ok (read_by m)
 reads_by (Err r) = Err r
+
+-- an ack has its enable list as it stands in the request
+abbrev pub AckHasList : Bytes → Result Message Refusal → Type 0
+AckHasList bytes (Ok (Ack slot list)) = list.now ≡ list_part bytes
+AckHasList bytes other = Unit {0}
 
 -- a request, or its refusal
 abbrev pub request_in : Result Request Refusal → Result Read Refusal

@@ -5,7 +5,7 @@ ghost use Rattle.list.specs.View.{listing_if};
 ghost use Rattle.wire.specs.Laws.{OnlyEvent, OnlyAnswer, SyncsReadBack, AcksReadBack};
 ghost use Rattle.wire.specs.Messages.{read_framed, read_event, read_answer, slot_of};
 ghost use Rattle.wire.specs.Requests.{enable_questions, request_questions, read_as, read_request};
-ghost use Rattle.wire.specs.View.{reads_by, event_in, answer_in, request_in};
+ghost use Rattle.wire.specs.View.{reads_by, AckHasList, event_in, answer_in, request_in};
 
 use crate::check::is_checked;
 use crate::items::items_fit;
@@ -63,10 +63,11 @@ fn read_framed<'a>(head: &[u8], bytes: &'a [u8]) -> Option<ListRead<'a>>
     read_list(list)
 }
 
-/// Reads a request, of any length and content. The first question that is answered no is the refusal. What the book writes is
-/// accepted, and read as it was meant.
+/// Reads a request, of any length and content. The first question that is answered no is the refusal. An ack has its enable
+/// list as it stands in the request. What the book writes is accepted, and read as it was meant.
 pub fn read_request<'a>(bytes: &'a [u8]) -> Result<Message<'a>, Refusal>
     ensures said { reads_by result ≡ request_in (read_request bytes.now) }
+    ensures list { AckHasList bytes.now result }
     ensures syncs { SyncsReadBack }
     ensures acks { AcksReadBack }
 {
@@ -75,7 +76,8 @@ pub fn read_request<'a>(bytes: &'a [u8]) -> Result<Message<'a>, Refusal>
 
 // The questions of a request, and what it says.
 fn read_asked<'a>(bytes: &'a [u8]) -> Result<Message<'a>, Refusal>
-    ensures { reads_by result ≡ request_in (read_as (first_no (request_questions bytes.now)) bytes.now) }
+    ensures said { reads_by result ≡ request_in (read_as (first_no (request_questions bytes.now)) bytes.now) }
+    ensures list { AckHasList bytes.now result }
 {
     if !(25..=4224).contains(&bytes.len()) {
         return Err(Refusal::RequestLength);
@@ -105,7 +107,8 @@ fn is_configuration(kind: u8, opcode: u8, configuration: u8) -> bool
 // The questions of the enable list, and what the request says.
 fn read_enable_list<'a>(bytes: &'a [u8]) -> Result<Message<'a>, Refusal>
     requires { 25 ≤ length bytes.now }
-    ensures { reads_by result ≡ request_in (read_as (first_no (enable_questions bytes.now)) bytes.now) }
+    ensures said { reads_by result ≡ request_in (read_as (first_no (enable_questions bytes.now)) bytes.now) }
+    ensures list { AckHasList bytes.now result }
 {
     let header = usize::from(bytes[20]);
     let total = usize::from(u16::from_le_bytes([bytes[18], bytes[19]]));

@@ -5,4 +5,4 @@ use Rattle.wire.proofs.read.read_request.Goals as goal
 
 pub returns : goal.returns
 unfolding read_request request_refusal
-returns c = record { said = search rules; syncs = syncs_read_back; acks = acks_read_back }
+returns c = record { said = search rules; list = search rules; syncs = syncs_read_back; acks = acks_read_back }
