@@ -11,10 +11,10 @@ use script::command::{Action, Command};
 
 /// The names of three scripts: the past of each pair, and the calls that are made of both.
 #[derive(Clone, Copy)]
-pub struct Beside<'a> {
-    pub first: &'a str,
-    pub second: &'a str,
-    pub later: &'a str,
+pub(crate) struct Beside<'a> {
+    pub(crate) first: &'a str,
+    pub(crate) second: &'a str,
+    pub(crate) later: &'a str,
 }
 
 // What a call left of each pair; none where it is no call of a pair.
@@ -106,7 +106,7 @@ fn run_second(rt: &HostRuntime, one: &mut Session, names: Beside<'_>) -> Result<
 }
 
 /// Runs two pairs of unlike pasts side by side.
-pub fn run_beside(rt: &HostRuntime, names: Beside<'_>) -> Result<()> {
+pub(crate) fn run_beside(rt: &HostRuntime, names: Beside<'_>) -> Result<()> {
     let Some(mut one) = run_past(rt, names.first)? else {
         return Ok(());
     };

@@ -10,7 +10,7 @@ use event::reading::Reading;
 
 /// A drive board or a table board.
 #[derive(Drop)]
-pub enum NamedBoard {
+pub(crate) enum NamedBoard {
     Drive(DriveBoard),
     Table(TableBoard),
 }

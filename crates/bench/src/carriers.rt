@@ -10,7 +10,7 @@ use smbus::SmbusCarrier;
 
 /// A mailbox or an SMBus carrier.
 #[derive(Drop)]
-pub enum NamedCarrier {
+pub(crate) enum NamedCarrier {
     Mailbox(Mailbox),
     Smbus(SmbusCarrier),
 }

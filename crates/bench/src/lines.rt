@@ -6,23 +6,23 @@ use syntax::fault::Fault;
 
 /// A line of a script and its command.
 #[derive(Drop)]
-pub struct Step {
-    pub line: usize,
-    pub command: Command,
+pub(crate) struct Step {
+    pub(crate) line: usize,
+    pub(crate) command: Command,
 }
 
 /// The first line of a script that is no command, and why.
 #[derive(Clone, Copy)]
-pub struct BadLine {
-    pub line: usize,
-    pub fault: Fault,
+pub(crate) struct BadLine {
+    pub(crate) line: usize,
+    pub(crate) fault: Fault,
 }
 
 /// The steps of a script up to its first bad line, and that line, if there is one.
 #[derive(Drop)]
-pub struct Script {
+pub(crate) struct Script {
     steps: Vec<Step>,
-    pub bad: Option<BadLine>,
+    pub(crate) bad: Option<BadLine>,
 }
 
 impl Step {
@@ -34,7 +34,7 @@ impl Step {
 
 impl Script {
     /// The script of a text.
-    pub fn read(heap: Global, text: &[u8]) -> Result<Script, AllocError> {
+    pub(crate) fn read(heap: Global, text: &[u8]) -> Result<Script, AllocError> {
         let mut steps = Vec::new(heap);
         for (i, bytes) in text.split(|byte| *byte == b'\n').enumerate() {
             let line = i.saturating_add(1);
@@ -51,12 +51,12 @@ impl Script {
     }
 
     /// All steps.
-    pub fn steps(&self) -> &[Step] {
+    pub(crate) fn steps(&self) -> &[Step] {
         self.steps.as_slice()
     }
 
     /// The settings that stand before the first call, and all that stands from it on.
-    pub fn parts(&self) -> (&[Step], &[Step]) {
+    pub(crate) fn parts(&self) -> (&[Step], &[Step]) {
         let steps = self.steps();
         let first = steps
             .iter()

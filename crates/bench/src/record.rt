@@ -29,7 +29,10 @@ fn identifiers(set: [u64; 4]) -> Result<ArrayVec<HexByte, 256>, AllocError> {
 }
 
 /// Where both ends and the carrier stand.
-pub fn standing(heap: Global, pair: &Pair<NamedBoard, NamedCarrier>) -> Result<String, AllocError> {
+pub(crate) fn standing(
+    heap: Global,
+    pair: &Pair<NamedBoard, NamedCarrier>,
+) -> Result<String, AllocError> {
     let endpoint = pair.endpoint();
     let state = endpoint.state();
     let enabled = identifiers(endpoint.enabled())?;
@@ -50,7 +53,7 @@ pub fn standing(heap: Global, pair: &Pair<NamedBoard, NamedCarrier>) -> Result<S
 }
 
 /// The packets of the message on an SMBus carrier: how many, and each one's bytes.
-pub fn packets(heap: Global, carrier: &NamedCarrier) -> Result<String, AllocError> {
+pub(crate) fn packets(heap: Global, carrier: &NamedCarrier) -> Result<String, AllocError> {
     let NamedCarrier::Smbus(bus) = carrier else {
         return String::from_str(heap, "ok 0 -");
     };

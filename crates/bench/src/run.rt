@@ -8,7 +8,7 @@ use script::command::{Action, Command};
 use std::fs;
 
 /// How often a call is made.
-pub fn times(action: &Action) -> usize {
+pub(crate) fn times(action: &Action) -> usize {
     match action {
         Action::Tick { count } => *count,
         _ => 1,
@@ -16,19 +16,19 @@ pub fn times(action: &Action) -> usize {
 }
 
 /// Prints the two lines of a call.
-pub fn print_note(rt: &HostRuntime, note: &Note) -> Result<()> {
+pub(crate) fn print_note(rt: &HostRuntime, note: &Note) -> Result<()> {
     let Note { call, standing } = note;
     println!(rt; "{call}\n  {standing}")?;
     Ok(())
 }
 
 /// The text of the script in a file.
-pub fn read_file(rt: &HostRuntime, name: &str) -> Result<Vec<u8>> {
+pub(crate) fn read_file(rt: &HostRuntime, name: &str) -> Result<Vec<u8>> {
     fs::read(rt, name).map_err(|error| anyhow!("{name}: {error}"))
 }
 
 /// An error at a line that is no command.
-pub fn at_bad_line(bad: BadLine) -> anyhow::Error {
+pub(crate) fn at_bad_line(bad: BadLine) -> anyhow::Error {
     let BadLine { line, fault } = bad;
     anyhow!("line {line}: {fault}")
 }
@@ -85,7 +85,7 @@ fn work(rt: &HostRuntime, session: &mut Session, script: &Script) -> Result<()> 
 
 /// Runs a script and prints its record, but for the table at its end. Hands back the session, unless the board or the
 /// carrier is refused.
-pub fn run_calls(rt: &HostRuntime, text: &[u8]) -> Result<Option<Session>> {
+pub(crate) fn run_calls(rt: &HostRuntime, text: &[u8]) -> Result<Option<Session>> {
     let script = Script::read(rt.alloc(), text)?;
     let Some(mut session) = open(rt, &script)? else {
         return Ok(None);
@@ -100,7 +100,7 @@ pub fn run_calls(rt: &HostRuntime, text: &[u8]) -> Result<Option<Session>> {
 }
 
 /// Runs a script and prints its record.
-pub fn run_script(rt: &HostRuntime, text: &[u8]) -> Result<()> {
+pub(crate) fn run_script(rt: &HostRuntime, text: &[u8]) -> Result<()> {
     let Some(mut session) = run_calls(rt, text)? else {
         return Ok(());
     };

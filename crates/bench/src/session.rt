@@ -11,28 +11,28 @@ use std::alloc::{AllocError, Global};
 
 /// The request last written and the endpoint's latest answer, each empty if there is none.
 #[derive(Drop)]
-pub struct Latest {
+pub(crate) struct Latest {
     request: Vec<u8>,
     answer: Vec<u8>,
 }
 
 /// A pair, what its later calls take up, and how many calls were made. It cannot be let go: `end` ends its pair.
-pub struct Session {
-    pub pair: Pair<NamedBoard, NamedCarrier>,
-    pub latest: Latest,
-    pub calls: usize,
+pub(crate) struct Session {
+    pub(crate) pair: Pair<NamedBoard, NamedCarrier>,
+    pub(crate) latest: Latest,
+    pub(crate) calls: usize,
 }
 
 /// The record of a call: the line that repeats it and tells what it handed back, and where all stands after it.
 #[derive(Drop)]
-pub struct Note {
-    pub call: String,
-    pub standing: String,
+pub(crate) struct Note {
+    pub(crate) call: String,
+    pub(crate) standing: String,
 }
 
 impl Latest {
     /// The call of an action; none for one that is no call of a pair.
-    pub fn call<'a>(&'a self, action: &'a Action) -> Option<Call<'a>> {
+    pub(crate) fn call<'a>(&'a self, action: &'a Action) -> Option<Call<'a>> {
         Some(match action {
             Action::Change { place, reading } => Call::Change {
                 place: *place,
@@ -64,7 +64,7 @@ impl Latest {
     }
 
     /// Keeps the request that was written, or the endpoint's answer.
-    pub fn keep(
+    pub(crate) fn keep(
         &mut self,
         heap: Global,
         action: &Action,
@@ -85,7 +85,7 @@ impl Latest {
 
 impl Session {
     /// A new pair on this board and this carrier.
-    pub fn new(heap: Global, board: NamedBoard, carrier: NamedCarrier) -> Session {
+    pub(crate) fn new(heap: Global, board: NamedBoard, carrier: NamedCarrier) -> Session {
         Session {
             pair: Pair::new(board, carrier),
             latest: Latest {
@@ -97,7 +97,7 @@ impl Session {
     }
 
     /// Makes a call, with a buffer of this length, and says what it left; none for an action that is no call of a pair.
-    pub fn make(&mut self, action: &Action, room: usize) -> Option<Record> {
+    pub(crate) fn make(&mut self, action: &Action, room: usize) -> Option<Record> {
         let call = self.latest.call(action)?;
         let mut records = [Record::new()];
         let _made = self.pair.run(&[Task { call, room }], &mut records);
@@ -106,7 +106,7 @@ impl Session {
     }
 
     /// Notes a call that was made: counts it, and keeps what later calls take up.
-    pub fn note(
+    pub(crate) fn note(
         &mut self,
         heap: Global,
         action: &Action,
@@ -131,7 +131,7 @@ impl Session {
     }
 
     /// Ends the session.
-    pub fn end(self) {
+    pub(crate) fn end(self) {
         let Session {
             pair,
             latest: _latest,

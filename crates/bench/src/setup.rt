@@ -38,7 +38,7 @@ enum CarrierSaid {
 
 /// What a script has set up so far.
 #[derive(Drop)]
-pub struct Setup {
+pub(crate) struct Setup {
     board: Option<BoardSaid>,
     carrier: Option<CarrierSaid>,
 }
@@ -89,7 +89,7 @@ impl CarrierSaid {
 
 impl Setup {
     /// The settings of a script. One that does not fit is an error that names its line.
-    pub fn read(heap: Global, settings: &[Step]) -> Result<Setup> {
+    pub(crate) fn read(heap: Global, settings: &[Step]) -> Result<Setup> {
         let mut setup = Setup {
             board: None,
             carrier: None,
@@ -150,7 +150,7 @@ impl Setup {
     }
 
     /// What the settings lack, if they lack something.
-    pub fn lacks(&self) -> Option<&'static str> {
+    pub(crate) fn lacks(&self) -> Option<&'static str> {
         if self.board.is_none() {
             Some("no board is named")
         } else if self.carrier.is_none() {
@@ -161,7 +161,7 @@ impl Setup {
     }
 
     /// The board and the carrier, or why one of them is refused; none if one is not named.
-    pub fn make(&self) -> Option<Result<(NamedBoard, NamedCarrier), Refusal>> {
+    pub(crate) fn make(&self) -> Option<Result<(NamedBoard, NamedCarrier), Refusal>> {
         let board = self.board.as_ref()?;
         let carrier = self.carrier?;
         Some(made(board, carrier))
@@ -173,6 +173,6 @@ fn made(board: &BoardSaid, carrier: CarrierSaid) -> Result<(NamedBoard, NamedCar
 }
 
 /// An error at a line of a script.
-pub fn at_line(line: usize, what: &str) -> anyhow::Error {
+pub(crate) fn at_line(line: usize, what: &str) -> anyhow::Error {
     anyhow!("line {line}: {what}")
 }

@@ -39,7 +39,7 @@ fn row(heap: Global, id: UniqueId, shown: &str) -> Result<String, AllocError> {
 
 impl Session {
     /// The table of what the book shows of each source of the board; or why it shows none of them.
-    pub fn table(&mut self, heap: Global) -> Result<String, AllocError> {
+    pub(crate) fn table(&mut self, heap: Global) -> Result<String, AllocError> {
         let mut text = String::from_str(heap, "book")?;
         for place in 0..self.pair.board().count() {
             let Some(id) = self.pair.board().id(place) else {

@@ -7,31 +7,31 @@ use std::str::from_utf8;
 
 /// Bytes, shown as capital hexadecimal digits, `-` where there is none.
 #[derive(Clone, Copy)]
-pub struct Hex<'a>(pub &'a [u8]);
+pub(crate) struct Hex<'a>(pub(crate) &'a [u8]);
 
 /// A byte, shown as two capital hexadecimal digits.
 #[derive(Clone, Copy, Default)]
-pub struct HexByte(pub u8);
+pub(crate) struct HexByte(pub(crate) u8);
 
 /// Values with commas between them, `-` where there is none.
 #[derive(Clone, Copy)]
-pub struct Listed<'a, T>(pub &'a [T]);
+pub(crate) struct Listed<'a, T>(pub(crate) &'a [T]);
 
 /// Bytes that are text, shown as that text.
 #[derive(Clone, Copy)]
-pub struct Text<'a>(pub &'a [u8]);
+pub(crate) struct Text<'a>(pub(crate) &'a [u8]);
 
 /// A state of the book, shown by one word.
 #[derive(Clone, Copy)]
-pub struct PhaseName(pub Phase);
+pub(crate) struct PhaseName(pub(crate) Phase);
 
 /// What a call handed back, and the bytes that it wrote.
 #[derive(Clone, Copy)]
-pub struct Reply<'a>(pub &'a Record);
+pub(crate) struct Reply<'a>(pub(crate) &'a Record);
 
 /// Why something is refused: the number, and the reason in words.
 #[derive(Clone, Copy)]
-pub struct Refused(pub Refusal);
+pub(crate) struct Refused(pub(crate) Refusal);
 
 impl<'a> fmt::Display for Hex<'a> {
     fn fmt<W: fmt::Write>(&self, f: &mut fmt::Formatter<W>) -> fmt::Result {
