@@ -1,4 +1,8 @@
 //! Two pairs side by side: each has its own past, and then the same calls are made of both.
+ghost use Rattle.std.specs.Prelude.{◌≡◌};
+ghost use Rattle.pair.specs.View.{step_if};
+ghost use Rattle.bench.specs.Asked.{pair_of_session, asked_in, asked_with};
+
 use crate::lines::Script;
 use crate::run::{at_bad_line, print_note, read_file, run_calls, times};
 use crate::session::Session;
@@ -32,7 +36,12 @@ fn run_past(rt: &HostRuntime, name: &str) -> Result<Option<Session>> {
 }
 
 // Makes the same call of both pairs: one that takes up a request or an answer takes up the first pair's.
-fn make_both(one: &mut Session, other: &mut Session, action: &Action, room: usize) -> Made {
+fn make_both(one: &mut Session, other: &mut Session, action: &Action, room: usize) -> Made
+    ensures one { pair_of_session one.new ≡ step_if (pair_of_session one.old) (asked_in one.old room action.now) }
+    ensures other { pair_of_session other.new ≡ step_if (pair_of_session other.old) (asked_with one.old.latest other.old room action.now) }
+    ensures latest { one.new.latest ≡ one.old.latest }
+    ensures own { other.new.latest ≡ other.old.latest }
+{
     let Some(call) = one.latest.call(action) else {
         return Made {
             one: None,

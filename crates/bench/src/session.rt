@@ -1,4 +1,11 @@
 //! Both ends at work on a script.
+ghost use Rattle.std.specs.Prelude.{◌≡◌, ℕ, Option, MatchOption, OnOk, vec_items};
+ghost use Rattle.script.specs.declared.command.Action.TheVariants.{Packets};
+ghost use Rattle.wire.specs.declared.types.Kind.{Kind};
+ghost use Rattle.pair.specs.View.{step_if, outcome_if};
+ghost use Rattle.pair.specs.Runs.{note_of, note_after, empty_note};
+ghost use Rattle.bench.specs.Asked.{asked, request_after, answer_after, call_if, pair_of_session, asked_in};
+
 use crate::boards::NamedBoard;
 use crate::carriers::NamedCarrier;
 use crate::record::{packets, standing};
@@ -32,7 +39,10 @@ pub(crate) struct Note {
 
 impl Latest {
     /// The call of an action; none for one that is no call of a pair.
-    pub(crate) fn call<'a>(&'a self, action: &'a Action) -> Option<Call<'a>> {
+    pub(crate) fn call<'a>(&'a self, action: &'a Action) -> Option<Call<'a>>
+        ensures call { (kind : Option Kind) (room : ℕ) → call_if kind room result ≡ asked self.now kind room action.now }
+        ensures none { MatchOption result (action.now ≡ Packets) (λ _. Unit {0}) }
+    {
         Some(match action {
             Action::Change { place, reading } => Call::Change {
                 place: *place,
@@ -69,11 +79,15 @@ impl Latest {
         heap: Global,
         action: &Action,
         record: &Record,
-    ) -> Result<(), AllocError> {
+    ) -> Result<(), AllocError>
+        ensures request { OnOk result (vec_items self.new.request ≡ request_after self.old action.now (note_of record.now)) }
+        ensures answer { OnOk result (vec_items self.new.answer ≡ answer_after self.old action.now (note_of record.now)) }
+    {
         let Some(Ok(count)) = record.reply() else {
             return Ok(());
         };
-        let written = record.buffer().get(..count).unwrap_or(&[]);
+        let buffer = record.buffer();
+        let written = buffer.get(..count).unwrap_or(buffer);
         match action {
             Action::Sync { .. } | Action::Ack => self.request = written.to_vec(heap)?,
             Action::Hand { .. } => self.answer = written.to_vec(heap)?,
@@ -97,7 +111,11 @@ impl Session {
     }
 
     /// Makes a call, with a buffer of this length, and says what it left; none for an action that is no call of a pair.
-    pub(crate) fn make(&mut self, action: &Action, room: usize) -> Option<Record> {
+    pub(crate) fn make(&mut self, action: &Action, room: usize) -> Option<Record>
+        ensures pair { pair_of_session self.new ≡ step_if (pair_of_session self.old) (asked_in self.old room action.now) }
+        ensures latest { self.new.latest ≡ self.old.latest }
+        ensures record { MatchOption result (action.now ≡ Packets) (λ r. note_of r ≡ note_after (outcome_if (pair_of_session self.old) (asked_in self.old room action.now)) empty_note) }
+    {
         let call = self.latest.call(action)?;
         let mut records = [Record::new()];
         let _made = self.pair.run(&[Task { call, room }], &mut records);
