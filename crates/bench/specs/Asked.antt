@@ -19,7 +19,7 @@ use Rattle.protocol.specs.Pair.{
   shows,
   resets,
 }
-use Rattle.pair.specs.Hands.{awaited}
+use Rattle.pair.specs.Receipts.{awaited}
 use Rattle.pair.specs.Runs.{Note}
 use Rattle.pair.specs.View.{pair_in, answer_if, give_up_if, call_of}
 use Rattle.pair.specs.declared.call.Call.{Call as Told}

@@ -1,5 +1,4 @@
--- What the board and the carrier that a script names mean: what the one or the other means.
-
+-- What a named board tells, and what a named carrier carries. Assumes nothing.
 use Rattle.board.specs.Boards.{Sources}
 use Rattle.board.specs.Drives.{drive_sources}
 use Rattle.board.specs.Tables.{table_sources}

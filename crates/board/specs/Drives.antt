@@ -14,7 +14,7 @@ of_controller identifier controller = record { identifier = identifier; scope = 
 abbrev pub of_subsystem : (identifier : ℕ) → UniqueId
 of_subsystem identifier = record { identifier = identifier; scope = 2; info = 0 }
 
--- an event of the PCIe port 0
+-- an event of the NVMe-MI port 0
 abbrev pub of_port : (identifier : ℕ) → UniqueId
 of_port identifier = record { identifier = identifier; scope = 4; info = 0x10000 }
 

@@ -13,7 +13,7 @@ ghost use Rattle.board.specs.Boards.{Sources, ids, at, reading_of, lawful_board,
 use event::id::UniqueId;
 use event::reading::Reading;
 
-/// An ordered row of 1 to 64 sources, no ID twice. Each has an ID, which stays, and a reading, which changes.
+/// An ordered list of 1 to 64 sources, no ID twice. Each has an ID, which stays, and a reading, which changes.
 pub trait Board {
     /// The sources in their order, each with its present reading.
     ghost told: { Self → Sources };

@@ -1,4 +1,4 @@
--- The two cyclic redundancy checks, a bit at a time, by their polynomials: CRC-32C as in RFC 3720, and CRC-8 of the polynomial 07h. Assumes nothing.
+-- The two cyclic redundancy checks, a bit at a time, by their polynomials: CRC-32C of 1EDC6F41h, from the lowest bit on, and CRC-8 of 07h, from the highest bit on. Assumes nothing.
 use Rattle.std.specs.Prelude.{ℕ, zero, suc, ◌*◌, ◌/◌, ◌%◌, List, fold, bit_xor}
 
 -- a step taken n times

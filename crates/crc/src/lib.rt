@@ -1,4 +1,4 @@
-//! The two cyclic redundancy checks of the carriers: CRC-32C and CRC-8.
+//! The two cyclic redundancy checks: CRC-32C of messages, and CRC-8 of SMBus packets.
 #![tactic(auto)]
 
 ghost use Rattle.std.specs.Prelude.{◌≡◌, fold};
@@ -8,7 +8,7 @@ mod tables;
 
 use tables::{crc8_entry, crc32c_entry};
 
-/// CRC-32C of some bytes, as in RFC 3720.
+/// CRC-32C of some bytes.
 pub fn crc32c(bytes: &[u8]) -> u32
     ensures { result ≡ crc32c_of bytes.now }
 {

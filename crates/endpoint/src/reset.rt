@@ -33,8 +33,8 @@ impl Endpoint {
         }
     }
 
-    /// Everything starts anew: Off, with nothing enabled or marked, and the message withdrawn. The generation and the
-    /// failure bit stay.
+    /// The endpoint is Off, with nothing enabled or marked, and the message is withdrawn. All else stays: the generation,
+    /// the failure bit, the delays and the destination.
     pub fn reset<C: Carrier>(&mut self, carrier: &mut C)
         ensures { Left (resetting (C.Carrier.carried carrier.old) (as_endpoint self.old)) (as_endpoint self.new) (C.Carrier.carried carrier.new) }
     {

@@ -31,9 +31,9 @@ lawful_scope identifier scope =
     (cond (identifier == 0x0B) (scope == 4)
     (is_vendor identifier && nat_le scope 5))))))
 
--- a PCIe port: 10000h plus a port number of at most FFh
-abbrev pub is_pcie_port : (info : ℕ) → Bool
-is_pcie_port info = within 0x10000 0x100FF info
+-- an NVMe-MI port: 10000h plus a port number of at most FFh
+abbrev pub is_mi_port : (info : ℕ) → Bool
+is_mi_port info = within 0x10000 0x100FF info
 
 -- the scope ID info that an event of this scope may have
 abbrev pub lawful_info : (identifier scope info : ℕ) → Bool
@@ -41,7 +41,7 @@ lawful_info identifier scope info =
     cond (scope == 0) (nat_le info 0xFFFFFFFF)
     (cond (scope == 2) (info == 0)
     (cond (scope == 3) (nat_le info 0xFF)
-    (cond (scope == 4) (cond (identifier == 0x0B) (is_pcie_port info) (nat_le info 0xFFFF || is_pcie_port info))
+    (cond (scope == 4) (cond (identifier == 0x0B) (is_mi_port info) (nat_le info 0xFFFF || is_mi_port info))
     (cond (scope == 1 || scope == 5) (nat_le info 0xFFFF)
     false))))
 

@@ -68,13 +68,13 @@ fn lawful_reading(identifier: u8, reading: &[u8]) -> bool
 fn lawful_info(identifier: u8, scope: u8, info: u32) -> bool
     ensures { result ≡ lawful_info identifier scope info }
 {
-    let pcie_port = (0x1_0000..=0x1_00FF).contains(&info);
+    let mi_port = (0x1_0000..=0x1_00FF).contains(&info);
     match scope {
         0 => true,
         1 | 5 => info <= 0xFFFF,
         2 => info == 0,
         3 => info <= 0xFF,
-        4 => pcie_port || (identifier != 0x0B && info <= 0xFFFF),
+        4 => mi_port || (identifier != 0x0B && info <= 0xFFFF),
         _ => false,
     }
 }

@@ -2,7 +2,7 @@
 use crate::id::UniqueId;
 use crate::reading::Reading;
 
-/// An event that occurred: its source, and the reading at that time.
+/// A source, by its unique ID, with a reading of it.
 #[derive(Clone, Copy, Default)]
 pub struct Occurrence {
     pub id: UniqueId,

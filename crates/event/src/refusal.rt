@@ -1,4 +1,4 @@
-//! Refusals: why a call did nothing, or less than was asked.
+//! Refusals: why a call is refused.
 ghost use Rattle.std.specs.Prelude.{◌≡◌};
 ghost use Rattle.event.specs.Refusals.{number};
 

@@ -28,7 +28,7 @@ unfoldable pub body : List Occurrence → Bytes
 body [] = []
 body (o ∷ os) = occurrence_bytes o ++ body os
 
--- what a list tells: these occurrences, or that there were too many for it
+-- what a list tells: these occurrences, or that they would take too many bytes
 pub data Told : Type 0 where
   these : List Occurrence → Told
   overflow : Told

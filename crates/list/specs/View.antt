@@ -27,6 +27,6 @@ listing_if None = None
 listing_if (Some l) = Some (listing_of l)
 
 -- a call for the next occurrence hands out the first that is left, and leaves the others; or nothing is left
-abbrev pub Hands : Occurrences → Option Event → Occurrences → Type 0
-Hands l None after = (left l ≡ []) × (left after ≡ [])
-Hands l (Some o) after = left l ≡ occurrence_of o ∷ left after
+abbrev pub Yields : Occurrences → Option Event → Occurrences → Type 0
+Yields l None after = (left l ≡ []) × (left after ≡ [])
+Yields l (Some o) after = left l ≡ occurrence_of o ∷ left after

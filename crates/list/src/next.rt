@@ -2,7 +2,7 @@
 ghost use Rattle.std.specs.Prelude.{◌≡◌, false, ◌&&◌, length, drop, MatchOption, nat_le};
 ghost use Rattle.list.specs.Lists.{reading_length, front};
 ghost use Rattle.list.specs.Reader.{Begins};
-ghost use Rattle.list.specs.View.{Hands};
+ghost use Rattle.list.specs.View.{Yields};
 ghost use Rattle.std.specs.Iterator.{at_most};
 
 use crate::types::{Front, Occurrences};
@@ -38,7 +38,7 @@ pub(crate) fn first(bytes: &[u8]) -> Option<Front<'_>>
 impl Iterator for Occurrences<'_> {
     type Item = Occurrence;
 
-    ghost next_gives = { λ s r t. Hands s r t };
+    ghost next_gives = { λ s r t. Yields s r t };
 
     ghost remaining = { λ s. at_most s.number };
 

@@ -1,10 +1,10 @@
 //! The reader of lists.
-ghost use Rattle.std.specs.Prelude.{◌≡◌, ℕ, suc, ◌≤◌, false, IfSome, MatchOption};
+ghost use Rattle.std.specs.Prelude.{◌≡◌, ℕ, suc, ◌≤◌, false, MatchOption};
 ghost use Rattle.keys.specs.Keys.{twice};
 ghost use Rattle.event.specs.Sources.{same_id};
 ghost use Rattle.list.specs.Lists.{ids_of, read_list};
-ghost use Rattle.list.specs.Laws.{ListsReadBack, Encodes};
-ghost use Rattle.list.specs.View.{left, listing_if, listing_of};
+ghost use Rattle.list.specs.Laws.{ListsReadBack, OnlyEncoding};
+ghost use Rattle.list.specs.View.{left, listing_if};
 ghost use Rattle.list.specs.Reader.{in_form, is_body, lawful_body, read_told, told_if};
 
 use crate::next::first;
@@ -87,7 +87,7 @@ fn read_told(number: u8, info: u32, body: &[u8]) -> Option<OccurrenceList<'_>>
 /// The list that the bytes are, if they are a lawful list and not a byte more.
 pub fn read_list(bytes: &[u8]) -> Option<ListRead<'_>>
     ensures listing { listing_if result ≡ read_list bytes.now }
-    ensures only { IfSome result (λ l. Encodes bytes.now (listing_of l)) }
+    ensures only { OnlyEncoding }
     ensures back { ListsReadBack }
 {
     let [

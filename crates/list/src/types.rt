@@ -10,11 +10,11 @@ pub struct Occurrences<'a> {
     pub(crate) rest: &'a [u8],
 }
 
-/// The occurrences were too many for a list.
+/// The occurrences would take more bytes than a list may have.
 #[derive(Clone, Copy, PartialEq, Eq, Debug)]
 pub struct Overflow;
 
-/// What a list tells: its occurrences, or that there were too many for it.
+/// What a list tells: its occurrences, or that they would take too many bytes.
 pub type OccurrenceList<'a> = Result<Occurrences<'a>, Overflow>;
 
 /// A lawful list, with the transmission info of its header.

@@ -4,7 +4,7 @@ use Rattle.event.specs.declared.id.UniqueId.{UniqueId}
 use Rattle.event.specs.Bytes.{Bytes}
 use Rattle.event.specs.Sources.{Occurrence, occurrence}
 
--- for each place of a board nothing, or the reading at the latest change there
+-- for each place of a board nothing, or a reading: that at the latest change there, or for a sync the present one
 abbrev pub Marking : Type 0
 Marking = (place : ℕ) → Option Bytes
 

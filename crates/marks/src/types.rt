@@ -3,7 +3,7 @@ ghost use Rattle.std.specs.Prelude.{◌≡◌, length};
 
 use event::reading::Reading;
 
-/// A set of places of a board, with the reading at the latest change of each.
+/// A set of places of a board, with a reading of each: that at its latest change, or for a sync the present one.
 #[derive(Clone, Copy)]
 pub struct Marks {
     // A word, and not an `Option` for each reading: its `count_ones` gives the number of a list.

@@ -2,7 +2,7 @@
 ghost use Rattle.std.specs.Prelude.{◌≡◌, ◌≤◌, length};
 ghost use Rattle.event.specs.Bytes.{placed};
 ghost use Rattle.list.specs.Lists.{body, over};
-ghost use Rattle.marks.specs.Lawful.{ReadsBack};
+ghost use Rattle.marks.specs.Lawful.{ListsLawful, ReadsBack};
 ghost use Rattle.marks.specs.View.{marks_of, occurrences_in};
 ghost use Rattle.marks.specs.Written.{marked_list, Written};
 
@@ -55,6 +55,7 @@ impl<B: Board> Marked<'_, B> {
     /// back.
     pub fn put_list(&self, out: &mut [u8], transmission: u8) -> Option<usize>
         ensures written { Written 4103 (marked_list transmission (B.Board.told self.now.board.now) (marks_of self.now.marks.now)) out.old out.new result }
+        ensures lawful { ListsLawful }
         ensures back { ReadsBack transmission (B.Board.told self.now.board.now) (marks_of self.now.marks.now) }
     {
         if out.len() < HEADER + LONGEST_BODY {

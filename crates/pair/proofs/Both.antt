@@ -14,7 +14,7 @@ use Rattle.protocol.specs.Masking.{compared}
 use Rattle.protocol.specs.Promise.{Alike, SyncStartsAnew}
 use Rattle.promises.proofs.Anew.{sync-starts-anew}
 use Rattle.pair.specs.declared.call.Task.{Task}
-use Rattle.pair.specs.Hands.{awaited}
+use Rattle.pair.specs.Receipts.{awaited}
 use Rattle.pair.specs.View.{call_of, step_if}
 use Rattle.pair.specs.Runs.{room_of, call_for, calls_in, prepend, GoOnAlike}
 

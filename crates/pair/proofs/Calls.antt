@@ -13,7 +13,7 @@ use Rattle.protocol.proofs.Fetches.{fetch-result, fetch-buffer}
 use Rattle.book.specs.declared.parts.Receipt.{Receipt}
 use Rattle.book.specs.Turns.{Writes, Does, with_receipt}
 use Rattle.book.specs.View.{handed}
-use Rattle.pair.specs.Hands.{counted, with_answer, SpendsIf}
+use Rattle.pair.specs.Receipts.{counted, with_answer, SpendsIf}
 use Rattle.pair.specs.View.{Steps, answer_if}
 
 -- a count, without the receipt

@@ -1,4 +1,4 @@
-pub mod Hands
+pub mod Receipts
 pub mod View
 pub mod Runs
 pub mod Fair

@@ -27,7 +27,7 @@ use Rattle.protocol.specs.Pair.{
   step,
 }
 use Rattle.endpoint.specs.View.{as_endpoint}
-use Rattle.pair.specs.Hands.{awaited}
+use Rattle.pair.specs.Receipts.{awaited}
 use Rattle.pair.specs.declared.call.Call.{Call as Told}
 use Rattle.pair.specs.declared.call.Call.TheVariants.{
   Change,

@@ -2,7 +2,7 @@
 ghost use Rattle.std.specs.Prelude.{◌≡◌, length};
 ghost use Rattle.protocol.specs.Book.{blind, write_sync, write_ack, take_answer, give_up, pick_up};
 ghost use Rattle.book.specs.Turns.{Does};
-ghost use Rattle.pair.specs.Hands.{Fills, counted, filled, awaited, with_answer, without_answer, SpendsIf};
+ghost use Rattle.pair.specs.Receipts.{Fills, counted, filled, awaited, with_answer, without_answer, SpendsIf};
 
 use crate::manager::Manager;
 use book::parts::{Book, Receipt};
@@ -11,18 +11,18 @@ use event::delay::Delays;
 use event::refusal::Refusal;
 use wire::types::Item;
 
-// Puts the receipt of a request that was written into a hand, which is empty then. A plain assignment would let the old
+// Puts the receipt of a request that was written where none is held then. A plain assignment would let the old
 // one go, which its type forbids.
 fn hold(
-    hand: &mut Option<Receipt>,
+    held: &mut Option<Receipt>,
     written: Result<(usize, Receipt), Refusal>,
 ) -> Result<usize, Refusal>
-    requires { Fills written hand.old }
+    requires { Fills written held.old }
     ensures result { result ≡ counted written }
-    ensures hand { hand.new ≡ filled written hand.old }
+    ensures held { held.new ≡ filled written held.old }
 {
     let (count, receipt) = written?;
-    if let Some(_old) = hand.replace(receipt) {
+    if let Some(_old) = held.replace(receipt) {
         unreachable!()
     }
     Ok(count)
@@ -35,7 +35,7 @@ impl Manager {
     {
         Manager {
             book: Book::new(),
-            hand: None,
+            receipt: None,
         }
     }
 
@@ -49,7 +49,7 @@ impl Manager {
         ensures { Does (write_sync items.now delays.first.0 delays.retry.0 (length buffer.old) self.old.book) self.new.book buffer.old buffer.new result }
     {
         let written = self.book.write_sync(buffer, items, delays);
-        hold(&mut self.hand, written)
+        hold(&mut self.receipt, written)
     }
 
     // The book writes an ack.
@@ -57,14 +57,14 @@ impl Manager {
         ensures { Does (write_ack (length buffer.old) self.old.book) self.new.book buffer.old buffer.new result }
     {
         let written = self.book.write_ack(buffer);
-        hold(&mut self.hand, written)
+        hold(&mut self.receipt, written)
     }
 
     // The book takes an answer, if a receipt is under way.
     pub(crate) fn answer(&mut self, bytes: &[u8]) -> Option<Result<usize, Refusal>>
         ensures { SpendsIf (with_answer (awaited self.old.book.phase) bytes.now self.old.book) self.old.book self.new.book result }
     {
-        let receipt = self.hand.take()?;
+        let receipt = self.receipt.take()?;
         Some(self.book.answer(receipt, bytes))
     }
 
@@ -72,7 +72,7 @@ impl Manager {
     pub(crate) fn give_up(&mut self) -> Option<Result<usize, Refusal>>
         ensures { SpendsIf (without_answer (awaited self.old.book.phase) self.old.book) self.old.book self.new.book result }
     {
-        let receipt = self.hand.take()?;
+        let receipt = self.receipt.take()?;
         Some(self.book.give_up(receipt))
     }
 

@@ -2,7 +2,7 @@
 ghost use Rattle.std.specs.Prelude.{◌≡◌};
 ghost use Rattle.protocol.specs.Pair.{pair_of};
 ghost use Rattle.endpoint.specs.View.{as_endpoint};
-ghost use Rattle.pair.specs.Hands.{awaited, without_answer, book_after};
+ghost use Rattle.pair.specs.Receipts.{awaited, without_answer, book_after};
 ghost use Rattle.pair.specs.View.{pair_in, step_if, give_up_if};
 ghost use Rattle.pair.specs.Runs.{note_of, empty_note};
 
@@ -20,8 +20,8 @@ impl Manager {
     fn end(self) -> Book
         ensures { result ≡ book_after (without_answer (awaited self.book.phase) self.book) self.book }
     {
-        let Manager { mut book, hand } = self;
-        if let Some(receipt) = hand {
+        let Manager { mut book, receipt } = self;
+        if let Some(receipt) = receipt {
             let _ = book.give_up(receipt);
         }
         book

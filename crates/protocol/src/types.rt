@@ -33,7 +33,7 @@ impl fmt::Display for State {
 pub enum Phase {
     /// Nothing.
     Blind,
-    /// The readings of all enabled sources.
+    /// What the latest answer said; it has no message to acknowledge.
     Settled,
     /// The same, and a message that it has not acknowledged.
     Holding,

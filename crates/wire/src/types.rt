@@ -36,7 +36,8 @@ pub enum Message<'a> {
         delays: Delays,
         items: Items<'a>,
     },
-    /// Acknowledges an event message, and asks for what changed since.
+    /// Acknowledges an event message, and asks for what changed since. Its enable list, from the start to the total length,
+    /// names nothing.
     Ack {
         slot: bool,
         list: &'a [u8],

@@ -1,5 +1,5 @@
 use Rattle.std.specs.Prelude.{Some, min}
-use Rattle.pair.specs.Hands.{awaited}
+use Rattle.pair.specs.Receipts.{awaited}
 use Rattle.bench.specs.Asked.{call_if, pair_of_session}
 use Rattle.bench.proofs.Single.{ran-one}
 use Rattle.bench.proofs.session.Session.make.Goals as goal

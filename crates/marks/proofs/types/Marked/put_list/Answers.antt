@@ -5,7 +5,7 @@ use Rattle.event.proofs.Placed.{placed_copy, placed-placed, length-placed}
 use Rattle.list.specs.Lists.{body, header, told, list_bytes}
 use Rattle.list.proofs.Lengths.{told-short}
 use Rattle.marks.specs.View.{occurrences_in}
-use Rattle.marks.proofs.Lawful.{lists_read_back}
+use Rattle.marks.proofs.Lawful.{lists_lawful, lists_read_back}
 use Rattle.marks.proofs.Lists.{over_list, whole_list}
 use Rattle.marks.proofs.Parts.{part_placed, length-part}
 use Rattle.marks.proofs.Writers.{written, unwritten}
@@ -14,7 +14,7 @@ use Rattle.marks.proofs.types.Marked.put_list.Goals as goal
 pub returns-then-out : goal.returns-then-out
 returns-then-out g c =
     let os = occurrences_in g.B.Board.told c.args.self.now in
-    record { written = unwritten 4103 _ c.args.out.now (told-short c.args.transmission os) (omega arith); back = lists_read_back c.args.transmission _ _ (g.met.B.Board.lawful c.args.self.now.board.now) }
+    record { written = unwritten 4103 _ c.args.out.now (told-short c.args.transmission os) (omega arith); lawful = lists_lawful; back = lists_read_back c.args.transmission _ _ (g.met.B.Board.lawful c.args.self.now.board.now) }
 
 pub returns-then-n-gt-LONGEST_BODY : goal.returns-then-n-gt-LONGEST_BODY
 returns-then-n-gt-LONGEST_BODY g c =
@@ -23,6 +23,7 @@ returns-then-n-gt-LONGEST_BODY g c =
     let is = over_list t os (omega (arith, c.body_length-n.ensures)) in
     record {
       written = written 4103 _ c.args.out.now _ _ (told-short t os) (omega arith) (ap length is) (placed_copy c.args.out.now 0 7 _ _ (c.copy_from_slice.ensures.after ∙ c.header_bytes.ensures ∙ is) (ap length is));
+      lawful = lists_lawful;
       back = lists_read_back t _ _ (g.met.B.Board.lawful c.args.self.now.board.now);
     }
 
@@ -58,5 +59,6 @@ returns g c =
     ∙ ap (placed d 0) is in
     record {
       written = written 4103 _ d _ _ (told-short t os) (omega arith) (omega (arith, n, ap length is)) out;
+      lawful = lists_lawful;
       back = lists_read_back t _ _ (g.met.B.Board.lawful c.args.self.now.board.now);
     }

@@ -1,5 +1,5 @@
 use Rattle.std.proofs.Common.{length, ap}
-use Rattle.pair.specs.Hands.{awaited}
+use Rattle.pair.specs.Receipts.{awaited}
 use Rattle.pair.specs.View.{pair_in, call_to}
 use Rattle.pair.proofs.Calls.{steps_as, answer_steps, fetch_steps}
 use Rattle.pair.proofs.pair.Pair.step.Goals as goal

@@ -26,20 +26,20 @@ awaited Settled = None
 awaited Holding = None
 awaited (Waiting kind) = Some kind
 
--- a request that was written finds an empty hand
+-- a request that was written finds no receipt under way
 abbrev pub Fills : Result (ℕ × Receipt) Refusal → Option Receipt → Type 0
-Fills (Ok w) hand = hand ≡ None
-Fills (Err r) hand = Unit {0}
+Fills (Ok w) held = held ≡ None
+Fills (Err r) held = Unit {0}
 
 -- how many bytes were written, or the refusal
 abbrev pub counted : Result (ℕ × Receipt) Refusal → Result ℕ Refusal
 counted (Ok w) = Ok w.0
 counted (Err r) = Err r
 
--- the hand after a request was written, or refused
+-- the receipt under way after a request was written, or refused
 abbrev pub filled : Result (ℕ × Receipt) Refusal → Option Receipt → Option Receipt
-filled (Ok w) hand = Some w.1
-filled (Err r) hand = hand
+filled (Ok w) held = Some w.1
+filled (Err r) held = held
 
 -- the turn of an answer, if a request is awaited
 abbrev pub with_answer : Option Kind → Bytes → Book → Option BookTurn
