@@ -7,7 +7,7 @@ use std::io;
 use wire::types::{Items, Message};
 
 /// Prints what a reader made of bytes: the message in words, or why it was refused.
-pub fn show(rt: &HostRuntime, read: Result<Message, Refusal>) -> io::Result<()> {
+pub(crate) fn show(rt: &HostRuntime, read: Result<Message, Refusal>) -> io::Result<()> {
     match read {
         Ok(
             Message::Event {
@@ -46,7 +46,7 @@ pub fn show(rt: &HostRuntime, read: Result<Message, Refusal>) -> io::Result<()> 
 }
 
 /// Prints why a call was refused.
-pub fn show_refusal(rt: &HostRuntime, refusal: Refusal) -> io::Result<()> {
+pub(crate) fn show_refusal(rt: &HostRuntime, refusal: Refusal) -> io::Result<()> {
     let number = refusal.number();
     println!(rt; "  refused {number} ({refusal})")
 }

@@ -9,7 +9,7 @@ use smbus::SmbusCarrier;
 use std::io;
 
 /// Gives a source of any board another reading, and prints whether it was taken and what the source says then.
-pub fn show_set<B: Board>(
+pub(crate) fn show_set<B: Board>(
     rt: &HostRuntime,
     board: &mut B,
     place: usize,
@@ -33,7 +33,7 @@ pub fn show_set<B: Board>(
 }
 
 /// Lays a message on any carrier, and prints what is fetched from it.
-pub fn show_delivery<C: Carrier>(
+pub(crate) fn show_delivery<C: Carrier>(
     rt: &HostRuntime,
     carrier: &mut C,
     message: &[u8],
@@ -50,7 +50,7 @@ pub fn show_delivery<C: Carrier>(
 }
 
 /// Prints the packets of the message on an SMBus carrier.
-pub fn show_packets(rt: &HostRuntime, carrier: &SmbusCarrier) -> io::Result<()> {
+pub(crate) fn show_packets(rt: &HostRuntime, carrier: &SmbusCarrier) -> io::Result<()> {
     for number in 0..carrier.packet_count() {
         let mut packet = [0u8; 73];
         if let Some(n) = carrier.copy_packet(number, &mut packet) {
