@@ -42,7 +42,23 @@ impl Endpoint {
     {
         let old = *mask;
         *mask = 1;
-        let _guard = MaskGuard { mask, old };
+        let guard = MaskGuard { mask, old };
+        self.work(board, carrier, sender, message, buffer, &*guard.mask)
+    }
+
+    // A request is worked. The report mask byte is lent to it, so that it is 1 until all is done.
+    fn work<B: Board, C: Carrier>(
+        &mut self,
+        board: &B,
+        carrier: &mut C,
+        sender: u8,
+        message: &[u8],
+        buffer: &mut [u8],
+        mask: &u8,
+    ) -> Result<usize, Refusal>
+        requires { mask.now ≡ 1 }
+        ensures { Turned (requesting (length buffer.old) sender message.now (B.Board.told board.now) (C.Carrier.carried carrier.old) (as_endpoint self.old)) (as_endpoint self.new) (C.Carrier.carried carrier.new) buffer.old buffer.new result }
+    {
         if buffer.len() < 4115 {
             return Err(Refusal::AnswerBufferShort);
         }
