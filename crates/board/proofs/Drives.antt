@@ -2,11 +2,11 @@
 use Rattle.std.proofs.Common.{◌≡◌, ℕ, zero, suc, ◌-◌, ◌≤◌, Bool, true, false, cond, eqb, leb, [], ◌∷◌, length, Some, sym, refl, ap, ◌∙◌, ⊎_elim, arith}
 use Rattle.std.proofs.lemmas.Bool.{cases_Bool, and_parts, eqb-true}
 use Rattle.event.specs.Bytes.{Bytes, byte}
-use Rattle.event.specs.Sources.{lawful_id, one_byte, lawful_reading}
+use Rattle.event.specs.Sources.{lawful_id, one_byte, lawful_reading, ids, all_lawful}
 use Rattle.std.proofs.lemmas.List.{nil_from_length}
 use Rattle.std.proofs.lemmas.Bool.Decides.{nat_tests}
 use Rattle.keys.specs.Keys.{among, twice}
-use Rattle.board.specs.Boards.{Sources, ids, at, all_lawful, lawful_board, takes, reread, after_set}
+use Rattle.board.specs.Boards.{Sources, at, lawful_board, takes, reread, after_set}
 use Rattle.board.specs.Drives.{of_controller, of_subsystem, drive_sources, new_drive, Sets}
 use Rattle.board.specs.declared.status.DriveStatus.{DriveStatus}
 use Rattle.board.proofs.Rereads.{takes_past, after_taken, after_refused}

@@ -5,8 +5,8 @@ use Rattle.std.proofs.lemmas.Option.{none-some, same_Some}
 use Rattle.keys.specs.Keys.{twice}
 use Rattle.event.specs.declared.id.UniqueId.{UniqueId}
 use Rattle.event.specs.Bytes.{Bytes, within}
-use Rattle.event.specs.Sources.{Occurrence, occurrence, same_id, lawful_id, lawful_reading, lawful_occurrence}
-use Rattle.board.specs.Boards.{Sources, ids, at, all_lawful, lawful_board, takes, reread, after_set}
+use Rattle.event.specs.Sources.{Occurrence, occurrence, same_id, lawful_id, lawful_reading, lawful_occurrence, ids, all_lawful}
+use Rattle.board.specs.Boards.{Sources, at, lawful_board, takes, reread, after_set}
 
 -- PLACES
 

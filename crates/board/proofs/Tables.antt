@@ -7,13 +7,13 @@ use Rattle.std.proofs.lemmas.List.{set-get_or}
 use Rattle.std.proofs.lemmas.Option.{cond_some, slice_get_past, slice_get_read}
 use Rattle.keys.specs.Keys.{twice}
 use Rattle.event.specs.Bytes.{Bytes, within}
-use Rattle.event.specs.Sources.{same_id, lawful_reading, lawful_occurrence}
+use Rattle.event.specs.Sources.{same_id, lawful_reading, lawful_occurrence, ids, all_lawful}
 use Rattle.event.specs.View.{held, held_if, occurrence_of}
 use Rattle.event.specs.declared.id.UniqueId.{UniqueId}
 use Rattle.event.specs.declared.occurrence.Occurrence.{Occurrence as Row}
 use Rattle.event.specs.declared.reading.Reading.{Reading}
 use Rattle.event.specs.declared.refusal.Refusal.TheVariants.{RowCount, UnlawfulRow, RowTwice}
-use Rattle.board.specs.Boards.{Sources, ids, at, reading_of, all_lawful, lawful_board, takes, reread, after_set}
+use Rattle.board.specs.Boards.{Sources, at, reading_of, lawful_board, takes, reread, after_set}
 use Rattle.board.specs.Tables.{rows_told, row_refusal, board_of}
 use Rattle.board.proofs.Rereads.{takes_at, after_taken, after_refused, lawful_from}
 
@@ -46,10 +46,10 @@ ids_rows [] = refl
 ids_rows (row ∷ rows) = ap (λ (us : List UniqueId). row.id ∷ us) (ids_rows rows)
 
 -- rows are lawful exactly if each is
-pub each_lawful : (rows : List Row) → list_all (λ (row : Row). lawful_occurrence (occurrence_of row)) rows ≡ all_lawful (rows_told rows)
+pub rows_all_lawful : (rows : List Row) → list_all (λ (row : Row). lawful_occurrence (occurrence_of row)) rows ≡ all_lawful (rows_told rows)
 unfolding all_lawful
-each_lawful [] = refl
-each_lawful (row ∷ rows) = ap (λ (b : Bool). lawful_occurrence (occurrence_of row) && b) (each_lawful rows)
+rows_all_lawful [] = refl
+rows_all_lawful (row ∷ rows) = ap (λ (b : Bool). lawful_occurrence (occurrence_of row) && b) (rows_all_lawful rows)
 
 -- a look at a place, and the part that is taken of the row there
 pub looked : {Y : Type 0} {P : Bor Row → Y → Type 0} {seen : List Row} (o : Option (Bor Row)) (r : Option Y) (part : Row → Y) (rows : List Row) (place : ℕ) → seen ≡ rows → IsItemAt seen place o → MatchOption o (r ≡ None) (λ x. IsSomeAnd r (P x)) → ((x : Bor Row) (y : Y) → P x y → y ≡ part x.now) → r ≡ option_map part (slice_get rows place)

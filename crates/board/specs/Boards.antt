@@ -3,16 +3,11 @@ use Rattle.std.specs.Prelude.{ℕ, zero, suc, Bool, true, false, cond, not, ◌&
 use Rattle.keys.specs.Keys.{twice}
 use Rattle.event.specs.declared.id.UniqueId.{UniqueId}
 use Rattle.event.specs.Bytes.{Bytes, within}
-use Rattle.event.specs.Sources.{Occurrence, occurrence, same_id, lawful_reading, lawful_occurrence}
+use Rattle.event.specs.Sources.{Occurrence, occurrence, same_id, lawful_reading, all_lawful, ids}
 
 -- what a board tells: its sources in their order, each with its present reading
 abbrev pub Sources : Type 0
 Sources = List Occurrence
-
--- the unique IDs, in the same order
-abbrev pub ids : Sources → List UniqueId
-ids [] = []
-ids (s ∷ ss) = s.id ∷ ids ss
 
 -- what stands at a place, counted from 0
 unfoldable pub at : {A : Type 0} → List A → (place : ℕ) → Option A
@@ -24,11 +19,6 @@ at (x ∷ xs) (suc place) = at xs place
 abbrev pub reading_of : Option Occurrence → Option Bytes
 reading_of None = None
 reading_of (Some s) = Some s.reading
-
--- is each a lawful unique ID with a lawful reading?
-unfoldable pub all_lawful : Sources → Bool
-all_lawful [] = true
-all_lawful (s ∷ ss) = lawful_occurrence s && all_lawful ss
 
 -- the boards that there may be: 1 to 64 sources, all lawful, no unique ID twice
 unfoldable pub lawful_board : Sources → Bool

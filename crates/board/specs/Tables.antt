@@ -4,12 +4,12 @@ use Rattle.arrayvec.specs.ArrayVec.{ArrayVec}
 use Rattle.keys.specs.Keys.{twice}
 use Rattle.event.specs.Bytes.{within}
 use Rattle.event.specs.Refusals.{Question, ask, first_no}
-use Rattle.event.specs.Sources.{same_id}
+use Rattle.event.specs.Sources.{same_id, ids, all_lawful}
 use Rattle.event.specs.View.{occurrence_of}
 use Rattle.event.specs.declared.occurrence.Occurrence.{Occurrence as Row}
 use Rattle.event.specs.declared.refusal.Refusal.{Refusal}
 use Rattle.event.specs.declared.refusal.Refusal.TheVariants.{RowCount, UnlawfulRow, RowTwice}
-use Rattle.board.specs.Boards.{Sources, ids, all_lawful}
+use Rattle.board.specs.Boards.{Sources}
 
 -- what rows tell
 abbrev pub rows_told : List Row → Sources

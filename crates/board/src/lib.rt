@@ -8,7 +8,8 @@ pub mod table;
 
 ghost use Rattle.std.specs.Prelude.{◌≡◌, true, length};
 ghost use Rattle.event.specs.View.{held_if};
-ghost use Rattle.board.specs.Boards.{Sources, ids, at, reading_of, lawful_board, takes, after_set};
+ghost use Rattle.event.specs.Sources.{ids};
+ghost use Rattle.board.specs.Boards.{Sources, at, reading_of, lawful_board, takes, after_set};
 
 use event::id::UniqueId;
 use event::reading::Reading;

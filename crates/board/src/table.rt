@@ -1,8 +1,8 @@
 //! The table board: sources from rows.
 ghost use Rattle.std.specs.Prelude.{◌≡◌, true, map};
-ghost use Rattle.event.specs.Sources.{lawful_occurrence};
+ghost use Rattle.event.specs.Sources.{lawful_occurrence, all_lawful};
 ghost use Rattle.event.specs.View.{occurrence_of};
-ghost use Rattle.board.specs.Boards.{lawful_board, all_lawful};
+ghost use Rattle.board.specs.Boards.{lawful_board};
 ghost use Rattle.board.specs.Tables.{table_sources, rows_told, row_refusal, board_of, told_if};
 ghost use Rattle.std.proofs.Common.{rules};
 

@@ -4,8 +4,8 @@ use Rattle.std.proofs.lemmas.List.{append-nil, append_assoc}
 use Rattle.std.proofs.lemmas.Bool.{and_parts, or_parts, not-true, both_ways, cond-true, cond-false}
 use Rattle.keys.specs.Keys.{among, twice}
 use Rattle.event.specs.declared.id.UniqueId.{UniqueId}
-use Rattle.event.specs.Sources.{Occurrence, same_id}
-use Rattle.list.specs.Lists.{these, over, each_lawful, ids_of, lawful_told}
+use Rattle.event.specs.Sources.{Occurrence, same_id, all_lawful, ids}
+use Rattle.list.specs.Lists.{these, over, lawful_told}
 use Rattle.wire.specs.declared.types.Kind.{Kind}
 use Rattle.wire.specs.declared.types.Kind.TheVariants.{Sync}
 use Rattle.protocol.specs.declared.types.Phase.{Phase}
@@ -14,29 +14,29 @@ use Rattle.protocol.specs.Book.{Book, enter, merge, book_of, up_to64, answered_t
 use Rattle.book.proofs.Rows.{same_true, same_false}
 
 -- an ID that is not among others is none of them
-apart : (u : UniqueId) (es os : List Occurrence) (o : Occurrence) → among same_id u (ids_of (es ++ (o ∷ os))) ≡ false → same_id u o.id ≡ false
+apart : (u : UniqueId) (es os : List Occurrence) (o : Occurrence) → among same_id u (ids (es ++ (o ∷ os))) ≡ false → same_id u o.id ≡ false
 unfolding among
 apart u [] os o h = (or_parts (same_id u o.id) _ h).0
 apart u (e ∷ es) os o h = apart u es os o (or_parts (same_id u e.id) _ h).1
 
 -- a source that is not entered yet comes behind the others
-enter_fresh : (es os : List Occurrence) (o : Occurrence) → twice same_id (ids_of (es ++ (o ∷ os))) ≡ false → enter o es ≡ es ++ (o ∷ [])
+enter_fresh : (es os : List Occurrence) (o : Occurrence) → twice same_id (ids (es ++ (o ∷ os))) ≡ false → enter o es ≡ es ++ (o ∷ [])
 unfolding enter twice
 enter_fresh [] os o h = refl
 enter_fresh (e ∷ es) os o h =
-    let both = or_parts (among same_id e.id (ids_of (es ++ (o ∷ os)))) _ h in
+    let both = or_parts (among same_id e.id (ids (es ++ (o ∷ os)))) _ h in
     let differ = apart e.id es os o both.0 in
     let other = same_false o.id e.id (λ i. both_ways (same_id e.id o.id) differ (same_true e.id o.id (sym i))) in
     cond-false (same_id o.id e.id) _ _ other ∙ ap (λ (l : List Occurrence). e ∷ l) (enter_fresh es os o both.1)
 
 -- so do several
-merge_fresh : (es os : List Occurrence) → twice same_id (ids_of (es ++ os)) ≡ false → merge es os ≡ es ++ os
+merge_fresh : (es os : List Occurrence) → twice same_id (ids (es ++ os)) ≡ false → merge es os ≡ es ++ os
 unfolding merge
 merge_fresh es [] h = sym (append-nil es)
 merge_fresh es (o ∷ os) h =
     let same = append_assoc es (o ∷ []) os in
     ap (λ (l : List Occurrence). merge l os) (enter_fresh es os o h)
-    ∙ merge_fresh (es ++ (o ∷ [])) os (ap (λ (l : List Occurrence). twice same_id (ids_of l)) same ∙ h)
+    ∙ merge_fresh (es ++ (o ∷ [])) os (ap (λ (l : List Occurrence). twice same_id (ids l)) same ∙ h)
     ∙ same
 
 -- a lawful list, entered where nothing is entered yet, makes its occurrences the entries
@@ -45,8 +45,8 @@ unfolding lawful_told
 filled phase os g h =
     let few = and_parts (leb (length os) 64) _ h in
     let short = and_parts (not (over os)) _ few.1 in
-    let each = and_parts (each_lawful os) _ short.1 in
-    let once = not-true (twice same_id (ids_of os)) each.1 in
+    let each = and_parts (all_lawful os) _ short.1 in
+    let once = not-true (twice same_id (ids os)) each.1 in
     ap (λ (l : List Occurrence). up_to64 phase l g) (merge_fresh [] os once) ∙ cond-true (leb (length os) 64) _ _ few.0
 
 -- so a sync's answer replaces all entries

@@ -8,8 +8,8 @@ use Rattle.std.proofs.lemmas.Bool.Decides.{eqb_tells}
 use Rattle.event.specs.declared.id.UniqueId.{UniqueId}
 use Rattle.event.specs.Bytes.{Bytes}
 use Rattle.event.specs.Identifiers.{Words, has, switched}
-use Rattle.event.specs.Sources.{Occurrence}
-use Rattle.board.specs.Boards.{Sources, ids, at, reading_of}
+use Rattle.event.specs.Sources.{Occurrence, ids}
+use Rattle.board.specs.Boards.{Sources, at, reading_of}
 use Rattle.board.proofs.Rereads.{at-below, at_source}
 use Rattle.marks.specs.Marking.{Marking, unmarked, update}
 use Rattle.marks.proofs.Listing.{at_drop}

@@ -2,7 +2,7 @@
 #![tactic(auto)]
 
 ghost use Rattle.std.specs.Prelude.{◌≡◌};
-ghost use Rattle.board.specs.Boards.{ids};
+ghost use Rattle.event.specs.Sources.{ids};
 ghost use Rattle.marks.specs.View.{marks_of};
 ghost use Rattle.protocol.specs.Endpoint.{known, enabling, present};
 ghost use Rattle.wire.specs.View.{left};

@@ -6,8 +6,8 @@ use Rattle.event.specs.declared.refusal.Refusal.{Refusal}
 use Rattle.event.specs.declared.refusal.Refusal.TheVariants.{NoSuchPlace, UnlawfulReading}
 use Rattle.event.specs.Bytes.{Bytes}
 use Rattle.event.specs.Outcomes.{done, refusal}
-use Rattle.event.specs.Sources.{lawful_reading}
-use Rattle.board.specs.Boards.{Sources, ids, at, lawful_board, lawful_if, takes, after_set}
+use Rattle.event.specs.Sources.{lawful_reading, ids}
+use Rattle.board.specs.Boards.{Sources, at, lawful_board, lawful_if, takes, after_set}
 use Rattle.board.specs.Changes.{change_refusal, handed_back}
 use Rattle.board.proofs.Changes.{change-below}
 use Rattle.board.proofs.Rereads.{at-inside, length_ids, after_refused, few_sources}

@@ -3,7 +3,8 @@ use Rattle.std.specs.Prelude.{◌≡◌, ℕ, Result}
 use Rattle.event.specs.declared.refusal.Refusal.{Refusal}
 use Rattle.event.specs.Bytes.{Bytes}
 use Rattle.event.specs.Outcomes.{Gives}
-use Rattle.board.specs.Boards.{Sources, ids, at, after_set}
+use Rattle.event.specs.Sources.{ids}
+use Rattle.board.specs.Boards.{Sources, at, after_set}
 use Rattle.marks.specs.View.{marks_of}
 use Rattle.carrier.specs.Carriers.{Line}
 use Rattle.protocol.specs.Endpoint.{Endpoint, endpoint_of, Turn, change, change_outcome}

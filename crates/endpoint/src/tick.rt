@@ -1,6 +1,6 @@
 //! Ticks: the endpoint sends what is marked, and sends it again until it is acknowledged.
 ghost use Rattle.std.specs.Prelude.{◌≡◌, ◌<◌, ◌≤◌, [], length};
-ghost use Rattle.board.specs.Boards.{ids};
+ghost use Rattle.event.specs.Sources.{ids};
 ghost use Rattle.protocol.specs.declared.types.State.TheVariants.{Sending};
 ghost use Rattle.protocol.specs.Endpoint.{start as starting, tick as ticking, fail as failing};
 ghost use Rattle.endpoint.specs.View.{as_endpoint, Left, Turned};

@@ -1,5 +1,5 @@
 -- Sources of events: their unique IDs, and which IDs and readings are lawful. Assumes nothing.
-use Rattle.std.specs.Prelude.{ℕ, Bool, false, cond, ◌&&◌, ◌||◌, length, ◌==◌, nat_le}
+use Rattle.std.specs.Prelude.{ℕ, Bool, true, false, cond, ◌&&◌, ◌||◌, List, [], ◌∷◌, length, ◌==◌, nat_le}
 use Rattle.event.specs.Bytes.{Bytes, byte, within}
 use Rattle.event.specs.declared.id.UniqueId.{UniqueId}
 
@@ -72,3 +72,13 @@ lawful_reading identifier reading = reading_fits identifier reading
 -- a lawful unique ID with a lawful reading
 abbrev pub lawful_occurrence : Occurrence → Bool
 lawful_occurrence o = lawful_id o.id && lawful_reading o.id.identifier o.reading
+
+-- is each a lawful unique ID with a lawful reading?
+unfoldable pub all_lawful : List Occurrence → Bool
+all_lawful [] = true
+all_lawful (o ∷ os) = lawful_occurrence o && all_lawful os
+
+-- the unique IDs, in the same order
+abbrev pub ids : List Occurrence → List UniqueId
+ids [] = []
+ids (o ∷ os) = o.id ∷ ids os

@@ -5,8 +5,8 @@ use Rattle.std.proofs.lemmas.Bool.{le-leb, lt-leb, and_parts, and_from}
 use Rattle.std.proofs.lemmas.Bool.Decides.{nat_tests}
 use Rattle.event.specs.declared.id.UniqueId.{UniqueId}
 use Rattle.event.specs.Bytes.{Bytes, byte, same_bytes}
-use Rattle.event.specs.Sources.{Occurrence, occurrence, is_vendor, lawful_id, lawful_info, lawful_scope, lawful_occurrence}
-use Rattle.list.specs.Lists.{occurrence_bytes, body, over, Told, these, overflow, list_bytes, each_lawful, lawful_told, reading_length, front, has_front, fronts, tells as told_bytes, Listing, listing, read_list}
+use Rattle.event.specs.Sources.{Occurrence, occurrence, is_vendor, lawful_id, lawful_info, lawful_scope, lawful_occurrence, all_lawful}
+use Rattle.list.specs.Lists.{occurrence_bytes, body, over, Told, these, overflow, list_bytes, lawful_told, reading_length, front, has_front, fronts, tells as told_bytes, Listing, listing, read_list}
 use Rattle.list.specs.Laws.{ListsReadBack}
 use Rattle.event.proofs.Readings.{reading-short}
 use Rattle.event.proofs.SameBytes.{same_refl}
@@ -62,8 +62,8 @@ module _ (o : Occurrence) (rest : Bytes) (lawful : lawful_occurrence o ≡ true)
       and_from _ _ (le-leb 9 (length bytes) (omega arith))
       (and_from _ _ (le-leb (reading_length bytes) 64 (omega arith)) (le-leb (reading_length bytes) (length (drop 9 bytes)) (omega arith)))
 
-pub fronts_back : (os : List Occurrence) → each_lawful os ≡ true → fronts (length os) (body os) ≡ os
-unfolding fronts body each_lawful
+pub fronts_back : (os : List Occurrence) → all_lawful os ≡ true → fronts (length os) (body os) ≡ os
+unfolding fronts body all_lawful
 fronts_back [] e = refl
 fronts_back (o ∷ os) e =
     let parts = and_parts (lawful_occurrence o) _ e in
@@ -77,7 +77,7 @@ pub tells_back : (transmission : ℕ) (t : Told) → lawful_told t ≡ true → 
 unfolding list_bytes
 tells_back transmission overflow e = refl
 tells_back transmission (these os) e =
-    let each : each_lawful os ≡ true = (unfold lawful_told in (and_parts (each_lawful os) _ (and_parts (not (over os)) _ (and_parts (leb (length os) 64) _ e).1).1).0) in
+    let each : all_lawful os ≡ true = (unfold lawful_told in (and_parts (all_lawful os) _ (and_parts (not (over os)) _ (and_parts (leb (length os) 64) _ e).1).1).0) in
     let small = not_over os (lawful_not_over os e) in
     let low : leb 0x80 ((7 + length (body os)) / 65536 % 256) ≡ false = lt-leb 0x80 _ (omega arith) in
     let back = fronts_back os each in

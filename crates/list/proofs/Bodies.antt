@@ -6,8 +6,8 @@ use Rattle.std.proofs.lemmas.List.{drop_more, drop_at, length-take-le, take-appe
 use Rattle.std.proofs.lemmas.Bool.{le-leb, eqb-true, eq-eqb, and_parts, and_from, cases_Bool}
 use Rattle.std.proofs.lemmas.Bool.Decides.{nat_tests}
 use Rattle.event.specs.Bytes.{Bytes, byte, same_bytes}
-use Rattle.event.specs.Sources.{Occurrence, is_vendor, lawful_id, lawful_reading, lawful_occurrence}
-use Rattle.list.specs.Lists.{specific_length, vendor_length, occurrence_bytes, body, each_lawful, reading_length, front, has_front, fronts}
+use Rattle.event.specs.Sources.{Occurrence, is_vendor, lawful_id, lawful_reading, lawful_occurrence, all_lawful}
+use Rattle.list.specs.Lists.{specific_length, vendor_length, occurrence_bytes, body, reading_length, front, has_front, fronts}
 use Rattle.list.specs.Reader.{Begins, other_length, in_form, is_body}
 use Rattle.list.specs.declared.types.Front.{Front}
 use Rattle.event.proofs.Readings.{reading-short}
@@ -105,7 +105,7 @@ regroup false u l = refl
 
 -- are these so many occurrences, and are they what stands there?
 abbrev are_body : ℕ → Bytes → List Occurrence → Bool
-are_body n s os = eqb (length os) n && (same_bytes s (body os) && each_lawful os)
+are_body n s os = eqb (length os) n && (same_bytes s (body os) && all_lawful os)
 
 body_is : (n : ℕ) (s : Bytes) (os : List Occurrence) → fronts n s ≡ os → is_body n s ≡ are_body n s os
 unfolding is_body
@@ -114,7 +114,7 @@ body_is n s os e = ap (are_body n s) e
 -- where no front stands, more occurrences do not
 pub body_without_front : (s : Bytes) → has_front s ≡ false → (n : ℕ) → is_body (suc n) s ≡ false
 body_without_front s e n =
-    body_is (suc n) s [] (fronts_end (suc n) s e) ∙ ap (λ (v : Bool). v && (same_bytes s (body []) && each_lawful [])) (eqb-zero-suc n)
+    body_is (suc n) s [] (fronts_end (suc n) s e) ∙ ap (λ (v : Bool). v && (same_bytes s (body []) && all_lawful [])) (eqb-zero-suc n)
 
 module _ (s : Bytes) (fit : Fit s) (f : Front) (begins : Begins s f) where
   in-form : in_form f ≡ (head_right s && lawful_occurrence (front s))
@@ -137,16 +137,16 @@ module _ (s : Bytes) (fit : Fit s) (f : Front) (begins : Begins s f) where
       front_by_length s f begins ∙ le-leb _ 64 (reading-short f.id.identifier f.reading.now d)
 
   body_more : has_front s ≡ true → (n : ℕ) → is_body (suc n) s ≡ (in_form f && is_body n f.rest.now)
-  unfolding is_body body each_lawful
+  unfolding is_body body all_lawful
   body_more stands n =
       let rest = behind s in
       let fs = fronts n rest in
       let o = front s in
       let less : suc n - 1 ≡ n = omega arith in
       body_is (suc n) s (o ∷ fs) (fronts_more (suc n) s (omega arith) stands ∙ ap (λ (k : ℕ). o ∷ fronts k rest) less)
-      ∙ ap (λ (v : Bool). v && (same_bytes s (occurrence_bytes o ++ body fs) && (lawful_occurrence o && each_lawful fs))) (eqb-suc-suc (length fs) n)
-      ∙ ap (λ (v : Bool). eqb (length fs) n && (v && (lawful_occurrence o && each_lawful fs))) (same_front s fit begins.nine begins.whole (body fs))
-      ∙ reorder (eqb (length fs) n) (head_right s) (same_bytes rest (body fs)) (lawful_occurrence o) (each_lawful fs)
+      ∙ ap (λ (v : Bool). v && (same_bytes s (occurrence_bytes o ++ body fs) && (lawful_occurrence o && all_lawful fs))) (eqb-suc-suc (length fs) n)
+      ∙ ap (λ (v : Bool). eqb (length fs) n && (v && (lawful_occurrence o && all_lawful fs))) (same_front s fit begins.nine begins.whole (body fs))
+      ∙ reorder (eqb (length fs) n) (head_right s) (same_bytes rest (body fs)) (lawful_occurrence o) (all_lawful fs)
       ∙ (λ i. sym in-form i && is_body n (sym begins.rest i))
 
   body_not_in_form : in_form f ≡ false → (n : ℕ) → is_body (suc n) s ≡ false
@@ -162,6 +162,6 @@ module _ (s : Bytes) (fit : Fit s) (f : Front) (begins : Begins s f) where
 
 -- after the last occurrence no byte is left
 pub body-none : (s : Bytes) → is_body 0 s ≡ eqb (length s) 0
-unfolding is_body fronts body each_lawful
+unfolding is_body fronts body all_lawful
 body-none [] = refl
 body-none (b ∷ s) = sym (eqb-suc-zero (length s))

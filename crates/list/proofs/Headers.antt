@@ -4,8 +4,8 @@ use Rattle.std.proofs.lemmas.List.{nil_from_length}
 use Rattle.std.proofs.lemmas.Bool.{le-leb, leb-true, eqb-true, eq-eqb, and_parts, and_from, and_right, not-true, cond-true, cond-false}
 use Rattle.std.proofs.lemmas.Bool.Decides.{nat_tests}
 use Rattle.event.specs.Bytes.{Bytes, byte, same_bytes, le24, four}
-use Rattle.event.specs.Sources.{Occurrence}
-use Rattle.list.specs.Lists.{body, over, Told, these, overflow, list_bytes, each_lawful, lawful_told, fronts, tells as told_in, Listing, listing, read_list}
+use Rattle.event.specs.Sources.{Occurrence, all_lawful}
+use Rattle.list.specs.Lists.{body, over, Told, these, overflow, list_bytes, lawful_told, fronts, tells as told_in, Listing, listing, read_list}
 use Rattle.list.specs.Reader.{is_body, lawful_body, read_told}
 use Rattle.event.proofs.SameBytes.{same_is, same_from, same_length}
 use Rattle.list.proofs.Passed.{same_test}
@@ -108,7 +108,7 @@ module _ (s : Bytes) (fit : Fit s) (seven : 7 ≤ length s) where
           let p = and_parts (lawful_told (these os)) _ e in
           let q1 = and_parts (leb (length os) 64) _ p.0 in
           let q2 = and_parts (not (over os)) _ q1.1 in
-          let q3 = and_parts (each_lawful os) _ q2.1 in
+          let q3 = and_parts (all_lawful os) _ q2.1 in
           let w = same_is s _ p.1 in
           let few = leb-true _ _ q1.0 in
           let short = not_over os (not-true _ q2.0) in

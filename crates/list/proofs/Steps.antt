@@ -3,9 +3,9 @@ use Rattle.std.proofs.Common.{◌≡◌, ℕ, zero, suc, ◌+◌, ◌-◌, ◌<�
 use Rattle.std.proofs.lemmas.List.{length-take-le, length-append}
 use Rattle.std.proofs.lemmas.Bool.{le-leb, cond_both}
 use Rattle.event.specs.Bytes.{Bytes}
-use Rattle.event.specs.Sources.{Occurrence}
+use Rattle.event.specs.Sources.{Occurrence, ids}
 use Rattle.event.specs.declared.id.UniqueId.{UniqueId}
-use Rattle.list.specs.Lists.{ids_of, reading_length, front, has_front, fronts}
+use Rattle.list.specs.Lists.{reading_length, front, has_front, fronts}
 use Rattle.list.specs.Reader.{Begins}
 use Rattle.list.specs.declared.types.Front.{Front}
 
@@ -60,15 +60,15 @@ fronts-few (suc n) bytes =
 
 -- UNIQUE IDS THAT ARE GATHERED
 
-pub length_ids : (os : List Occurrence) → length (ids_of os) ≡ length os
+pub length_ids : (os : List Occurrence) → length (ids os) ≡ length os
 length_ids [] = refl
 length_ids (o ∷ os) = ap suc (length_ids os)
 
 -- some are gathered, one is read, and the others are left
-pub gathered_count : (ids : List UniqueId) (all ls os : List Occurrence) (o : Occurrence) → ids ++ ids_of ls ≡ ids_of all → ls ≡ o ∷ os → length ids + 1 + length os ≡ length all
-gathered_count ids all ls os o e is =
-    let a = length-append ids (ids_of ls) in
+pub gathered_count : (row : List UniqueId) (all ls os : List Occurrence) (o : Occurrence) → row ++ ids ls ≡ ids all → ls ≡ o ∷ os → length row + 1 + length os ≡ length all
+gathered_count row all ls os o e is =
+    let a = length-append row (ids ls) in
     let b = ap length e in
     let d = length_ids all in
-    let f : length (ids_of ls) ≡ suc (length os) = length_ids ls ∙ ap length is in
+    let f : length (ids ls) ≡ suc (length os) = length_ids ls ∙ ap length is in
     omega arith

@@ -3,7 +3,7 @@ use Rattle.std.specs.Prelude.{ℕ, zero, suc, ◌+◌, Bool, true, cond, not, �
 use Rattle.keys.specs.Keys.{twice}
 use Rattle.event.specs.declared.id.UniqueId.{UniqueId}
 use Rattle.event.specs.Bytes.{Bytes, byte, le24, le32, four, same_bytes}
-use Rattle.event.specs.Sources.{Occurrence, occurrence, same_id, is_vendor, lawful_occurrence}
+use Rattle.event.specs.Sources.{Occurrence, occurrence, same_id, is_vendor, all_lawful, ids}
 
 -- WRITTEN
 
@@ -52,19 +52,9 @@ list_bytes transmission overflow = header 0 0x800000 transmission
 
 -- LAWFUL
 
--- is each a lawful unique ID with a lawful reading?
-unfoldable pub each_lawful : List Occurrence → Bool
-each_lawful [] = true
-each_lawful (o ∷ os) = lawful_occurrence o && each_lawful os
-
--- their unique IDs
-abbrev pub ids_of : List Occurrence → List UniqueId
-ids_of [] = []
-ids_of (o ∷ os) = o.id ∷ ids_of os
-
 -- what a lawful list tells: at most 64 lawful occurrences in at most 4,096 bytes, no unique ID twice; or overflow
 unfoldable pub lawful_told : Told → Bool
-lawful_told (these os) = nat_le (length os) 64 && (not (over os) && (each_lawful os && not (twice same_id (ids_of os))))
+lawful_told (these os) = nat_le (length os) 64 && (not (over os) && (all_lawful os && not (twice same_id (ids os))))
 lawful_told overflow = true
 
 -- READ

@@ -2,8 +2,8 @@
 use Rattle.std.specs.Prelude.{◌≡◌, ℕ, ◌+◌, ◌≤◌, Bool, cond, not, ◌&&◌, length, drop, Some, None, Option, Result, ◌==◌, nat_le}
 use Rattle.keys.specs.Keys.{twice}
 use Rattle.event.specs.Bytes.{Bytes, byte, same_bytes}
-use Rattle.event.specs.Sources.{same_id, is_vendor, lawful_id, lawful_reading}
-use Rattle.list.specs.Lists.{Told, these, overflow, body, each_lawful, ids_of, reading_length, front, fronts}
+use Rattle.event.specs.Sources.{same_id, is_vendor, lawful_id, lawful_reading, all_lawful, ids}
+use Rattle.list.specs.Lists.{Told, these, overflow, body, reading_length, front, fronts}
 use Rattle.list.specs.declared.types.Front.{Front}
 use Rattle.list.specs.declared.types.Occurrences.{Occurrences}
 use Rattle.list.specs.declared.types.Overflow.{Overflow}
@@ -31,12 +31,12 @@ in_form f = f.mark == 9 && (other_length f == 0 && (lawful_id f.id && lawful_rea
 -- are the bytes so many lawful occurrences, one after the other, and not a byte more?
 unfoldable pub is_body : (number : ℕ) → Bytes → Bool
 is_body number bytes =
-    (length (fronts number bytes) == number) && (same_bytes bytes (body (fronts number bytes)) && each_lawful (fronts number bytes))
+    (length (fronts number bytes) == number) && (same_bytes bytes (body (fronts number bytes)) && all_lawful (fronts number bytes))
 
 -- is this the body of a lawful list?
 abbrev pub lawful_body : (number : ℕ) → Bytes → Bool
 lawful_body number bytes =
-    nat_le number 64 && (nat_le (length bytes) 4096 && (is_body number bytes && not (twice same_id (ids_of (fronts number bytes)))))
+    nat_le number 64 && (nat_le (length bytes) 4096 && (is_body number bytes && not (twice same_id (ids (fronts number bytes)))))
 
 -- what a list of this number, length info and body tells, if it is lawful
 unfoldable pub read_told : (number info : ℕ) → Bytes → Option Told

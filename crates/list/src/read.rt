@@ -1,8 +1,8 @@
 //! The reader of lists.
 ghost use Rattle.std.specs.Prelude.{◌≡◌, ℕ, suc, ◌≤◌, false, MatchOption};
 ghost use Rattle.keys.specs.Keys.{twice};
-ghost use Rattle.event.specs.Sources.{same_id};
-ghost use Rattle.list.specs.Lists.{ids_of, read_list};
+ghost use Rattle.event.specs.Sources.{same_id, ids};
+ghost use Rattle.list.specs.Lists.{read_list};
 ghost use Rattle.list.specs.Laws.{ListsReadBack, OnlyEncoding};
 ghost use Rattle.list.specs.View.{left, listing_if};
 ghost use Rattle.list.specs.Reader.{in_form, is_body, lawful_body, read_told, told_if};
@@ -50,7 +50,7 @@ fn is_body(number: u8, bytes: &[u8]) -> bool
 // Whether two of the occurrences have one unique ID.
 fn has_id_twice(list: Occurrences) -> bool
     requires { list.number ≤ 64 }
-    ensures { result ≡ twice same_id (ids_of (left list.entry)) }
+    ensures { result ≡ twice same_id (ids (left list.entry)) }
 {
     // A loop: `extend` may find the vector full, and would have to be asked whether it did.
     let mut ids = ArrayVec::<UniqueId, 64>::new();

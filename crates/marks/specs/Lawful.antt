@@ -2,8 +2,8 @@
 use Rattle.std.specs.Prelude.{◌≡◌, ℕ, true, List, Some}
 use Rattle.event.specs.declared.id.UniqueId.{UniqueId}
 use Rattle.event.specs.Bytes.{Bytes}
-use Rattle.event.specs.Sources.{lawful_reading}
-use Rattle.board.specs.Boards.{Sources, ids, at, lawful_board}
+use Rattle.event.specs.Sources.{lawful_reading, ids}
+use Rattle.board.specs.Boards.{Sources, at, lawful_board}
 use Rattle.list.specs.Lists.{told, lawful_told, listing, read_list}
 use Rattle.marks.specs.Marking.{Marking, occurrences}
 use Rattle.marks.specs.Written.{marked_list}

@@ -2,9 +2,9 @@
 use Rattle.std.specs.Prelude.{ℕ, cond, List, [], map, Some, None, slice_index_or}
 use Rattle.event.specs.Bytes.{Bytes}
 use Rattle.event.specs.Identifiers.{bit}
-use Rattle.event.specs.Sources.{Occurrence}
+use Rattle.event.specs.Sources.{Occurrence, ids}
 use Rattle.event.specs.View.{held}
-use Rattle.board.specs.Boards.{Sources, ids}
+use Rattle.board.specs.Boards.{Sources}
 use Rattle.marks.specs.Marking.{Marking, occurrences}
 use Rattle.marks.specs.declared.types.Marks.{Marks}
 use Rattle.marks.specs.declared.types.Marked.{Marked}

@@ -1,8 +1,8 @@
 -- What the writer of a list leaves. Assumes nothing.
 use Rattle.std.specs.Prelude.{◌≡◌, ℕ, ◌<◌, ◌≤◌, Bool, true, false, cond, List, [], ◌∷◌, length, Some, None, Option, nat_le}
 use Rattle.event.specs.Bytes.{Bytes, placed}
-use Rattle.event.specs.Sources.{Occurrence}
-use Rattle.board.specs.Boards.{Sources, ids}
+use Rattle.event.specs.Sources.{Occurrence, ids}
+use Rattle.board.specs.Boards.{Sources}
 use Rattle.list.specs.Lists.{told, list_bytes}
 use Rattle.marks.specs.Marking.{Marking, occurrences}
 

@@ -8,8 +8,8 @@ use Rattle.event.specs.Bytes.{Bytes, byte}
 use Rattle.event.specs.Identifiers.{Words, has, any}
 use Rattle.event.specs.Outcomes.{Outcome, done}
 use Rattle.event.specs.Refusals.{first_no}
-use Rattle.event.specs.Sources.{Occurrence, lawful_reading}
-use Rattle.board.specs.Boards.{Sources, ids, at, after_set}
+use Rattle.event.specs.Sources.{Occurrence, lawful_reading, ids}
+use Rattle.board.specs.Boards.{Sources, at, after_set}
 use Rattle.list.specs.Lists.{these, overflow, told, over}
 use Rattle.marks.specs.Marking.{unmarked, occurrences}
 use Rattle.wire.specs.declared.types.Item.{Item}

@@ -2,8 +2,8 @@
 use Rattle.std.proofs.Common.{◌≡◌, ℕ, true, false, Some as some, None as none, Option, ap, ◌∙◌}
 use Rattle.event.specs.declared.id.UniqueId.{UniqueId}
 use Rattle.event.specs.Bytes.{Bytes}
-use Rattle.event.specs.Sources.{Occurrence, occurrence, lawful_reading}
-use Rattle.board.specs.Boards.{Sources, ids, at, lawful_if, takes, reread, after_set}
+use Rattle.event.specs.Sources.{Occurrence, occurrence, lawful_reading, ids}
+use Rattle.board.specs.Boards.{Sources, at, lawful_if, takes, reread, after_set}
 use Rattle.board.proofs.Rereads.{at_source, at_reread_same, after_taken, after_refused}
 
 -- the reading that was set

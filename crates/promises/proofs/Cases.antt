@@ -3,9 +3,9 @@ use Rattle.std.proofs.Common.{true, false, List, [], ◌∷◌, ◌++◌, None, 
 use Rattle.crc.specs.Crc.{repeated, bit_step, byte_step, crc32c}
 use Rattle.keys.specs.Keys.{among, twice}
 use Rattle.event.specs.Identifiers.{has, switched}
-use Rattle.event.specs.Sources.{lawful_id, lawful_reading}
-use Rattle.board.specs.Boards.{at, all_lawful, lawful_board, takes, reread, after_set}
-use Rattle.list.specs.Lists.{these, occurrence_bytes, body, over, list_bytes, each_lawful, lawful_told, fronts, read_list}
+use Rattle.event.specs.Sources.{lawful_id, lawful_reading, all_lawful}
+use Rattle.board.specs.Boards.{at, lawful_board, takes, reread, after_set}
+use Rattle.list.specs.Lists.{these, occurrence_bytes, body, over, list_bytes, lawful_told, fronts, read_list}
 use Rattle.marks.specs.Marking.{unmarked, update, listed_from}
 use Rattle.wire.specs.Checks.{checked, unchecked, is_checked}
 use Rattle.wire.specs.Messages.{read_framed, event_message, read_event, answer_message, read_answer}
@@ -21,7 +21,7 @@ unfolding occurrence_bytes body over list_bytes items_bytes items_in known enabl
 worked-cases = (refl, (refl, (refl, (refl, (refl, (refl, (refl, (refl, (refl, tt)))))))))
 
 pub change-is-shown : ChangeIsShown
-unfolding repeated bit_step byte_step crc32c among twice has switched lawful_id lawful_reading at all_lawful lawful_board takes reread after_set occurrence_bytes body over list_bytes each_lawful lawful_told fronts read_list unmarked update listed_from checked unchecked is_checked read_framed event_message read_event answer_message read_answer items_bytes request_message items_fit items_in request_refusal kind_of known enabling present find enter merge
+unfolding repeated bit_step byte_step crc32c among twice has switched lawful_id lawful_reading at all_lawful lawful_board takes reread after_set occurrence_bytes body over list_bytes lawful_told fronts read_list unmarked update listed_from checked unchecked is_checked read_framed event_message read_event answer_message read_answer items_bytes request_message items_fit items_in request_refusal kind_of known enabling present find enter merge
 change-is-shown = record {
   lawful = refl;
   given = (tt, (λ x. (refl, refl), (λ x. refl, (tt, (tt, (tt, (tt, (λ x. (refl, refl), (λ x. refl, tt)))))))));
@@ -37,7 +37,7 @@ abbrev past : List Call
 past = syncing 0x1E ++ (changing ++ (acknowledging ++ (changes 0 (0x1E ∷ []) ∷ [])))
 
 pub two-pasts : TwoPasts
-unfolding repeated bit_step byte_step crc32c among twice has switched lawful_id lawful_reading at all_lawful lawful_board takes reread after_set occurrence_bytes body over list_bytes each_lawful lawful_told fronts read_list unmarked update listed_from checked unchecked is_checked read_framed event_message read_event answer_message read_answer items_bytes request_message items_fit items_in request_refusal kind_of known enabling present find enter merge
+unfolding repeated bit_step byte_step crc32c among twice has switched lawful_id lawful_reading at all_lawful lawful_board takes reread after_set occurrence_bytes body over list_bytes lawful_told fronts read_list unmarked update listed_from checked unchecked is_checked read_framed event_message read_event answer_message read_answer items_bytes request_message items_fit items_in request_refusal kind_of known enabling present find enter merge
 two-pasts = record {
   first = after [];
   second = after past;

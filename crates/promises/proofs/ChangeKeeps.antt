@@ -5,8 +5,8 @@ use Rattle.std.proofs.lemmas.Bool.Decides.{eqb_tells}
 use Rattle.event.specs.declared.id.UniqueId.{UniqueId}
 use Rattle.event.specs.Bytes.{Bytes}
 use Rattle.event.specs.Identifiers.{Words, has}
-use Rattle.event.specs.Sources.{Occurrence, occurrence, lawful_reading}
-use Rattle.board.specs.Boards.{Sources, ids, at, reread}
+use Rattle.event.specs.Sources.{Occurrence, occurrence, lawful_reading, ids}
+use Rattle.board.specs.Boards.{Sources, at, reread}
 use Rattle.marks.specs.Lawful.{LawfulMarks}
 use Rattle.marks.specs.Marking.{Marking, update}
 use Rattle.carrier.specs.Carriers.{Message}

@@ -3,8 +3,8 @@ use Rattle.std.proofs.Common.{◌≡◌, ℕ, ◌<◌, Bool, true, false, ◌⊎
 use Rattle.event.specs.declared.id.UniqueId.{UniqueId}
 use Rattle.event.specs.Bytes.{Bytes}
 use Rattle.event.specs.Identifiers.{Words, has}
-use Rattle.event.specs.Sources.{Occurrence, occurrence, lawful_reading}
-use Rattle.board.specs.Boards.{Sources, ids, at}
+use Rattle.event.specs.Sources.{Occurrence, occurrence, lawful_reading, ids}
+use Rattle.board.specs.Boards.{Sources, at}
 use Rattle.list.specs.Lists.{these, told}
 use Rattle.marks.specs.Lawful.{LawfulMarks}
 use Rattle.marks.specs.Marking.{Marking, occurrences}

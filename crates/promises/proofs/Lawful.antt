@@ -5,8 +5,8 @@ use mathlib.Core.Bool.{false≢true}
 use Rattle.std.proofs.lemmas.Bool.{not-true, and_parts, or_parts}
 use Rattle.keys.specs.Keys.{among, twice}
 use Rattle.event.specs.declared.id.UniqueId.{UniqueId}
-use Rattle.event.specs.Sources.{Occurrence, same_id, lawful_id, lawful_reading, lawful_occurrence}
-use Rattle.board.specs.Boards.{Sources, ids, at, all_lawful, lawful_board}
+use Rattle.event.specs.Sources.{Occurrence, same_id, lawful_id, lawful_reading, lawful_occurrence, ids, all_lawful}
+use Rattle.board.specs.Boards.{Sources, at, lawful_board}
 use Rattle.board.proofs.Rereads.{lawful_parts}
 use Rattle.list.specs.Lists.{told}
 use Rattle.marks.specs.Marking.{occurrences}

@@ -20,8 +20,8 @@ use Rattle.event.specs.declared.refusal.Refusal.TheVariants.{
 use Rattle.event.specs.Bytes.{Bytes, within}
 use Rattle.event.specs.Outcomes.{Outcome, done, refusal, refusal_over}
 use Rattle.event.specs.Refusals.{number, Question, first_no}
-use Rattle.event.specs.Sources.{lawful_reading}
-use Rattle.board.specs.Boards.{ids, at, after_set}
+use Rattle.event.specs.Sources.{lawful_reading, ids}
+use Rattle.board.specs.Boards.{at, after_set}
 use Rattle.wire.specs.declared.types.Kind.{Kind}
 use Rattle.wire.specs.declared.types.Kind.TheVariants.{Sync as sync, Ack as ack}
 use Rattle.wire.specs.Messages.{Event, read_event, Answer, read_answer}

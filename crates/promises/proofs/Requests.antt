@@ -6,8 +6,8 @@ use Rattle.event.specs.declared.id.UniqueId.{UniqueId}
 use Rattle.event.specs.Bytes.{Bytes, byte}
 use Rattle.event.specs.Identifiers.{Words, has, any}
 use Rattle.event.specs.Outcomes.{Outcome}
-use Rattle.event.specs.Sources.{Occurrence, occurrence}
-use Rattle.board.specs.Boards.{Sources, ids, at}
+use Rattle.event.specs.Sources.{Occurrence, occurrence, ids}
+use Rattle.board.specs.Boards.{Sources, at}
 use Rattle.list.specs.Lists.{Told, these, overflow, told, over}
 use Rattle.marks.specs.Lawful.{LawfulMarks}
 use Rattle.marks.specs.Marking.{Marking, unmarked, occurrences}

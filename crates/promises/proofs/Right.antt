@@ -1,5 +1,5 @@
 -- The first two promises. Assumes nothing.
-use Rattle.board.specs.Boards.{ids}
+use Rattle.event.specs.Sources.{ids}
 use Rattle.wire.specs.Laws.{EventsReadBack, AnswersReadBack}
 use Rattle.protocol.specs.Pair.{new_pair, run}
 use Rattle.protocol.specs.History.{new_history, after_calls}

@@ -8,8 +8,8 @@ use Rattle.event.specs.declared.refusal.Refusal.{Refusal}
 use Rattle.event.specs.Bytes.{Bytes}
 use Rattle.event.specs.Identifiers.{has}
 use Rattle.event.specs.Outcomes.{Outcome, done}
-use Rattle.event.specs.Sources.{lawful_reading}
-use Rattle.board.specs.Boards.{Sources, ids, at}
+use Rattle.event.specs.Sources.{lawful_reading, ids}
+use Rattle.board.specs.Boards.{Sources, at}
 use Rattle.list.specs.Lists.{over}
 use Rattle.marks.specs.Marking.{Marking, unmarked, update}
 use Rattle.wire.specs.Requests.{Request, Sync, Ack, request_of}

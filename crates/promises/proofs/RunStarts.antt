@@ -7,7 +7,8 @@ use Rattle.event.specs.declared.refusal.Refusal.TheVariants.{TickBufferShort}
 use Rattle.event.specs.Bytes.{Bytes}
 use Rattle.event.specs.Identifiers.{any}
 use Rattle.event.specs.Outcomes.{Outcome, done, refusal}
-use Rattle.board.specs.Boards.{Sources, ids}
+use Rattle.event.specs.Sources.{ids}
+use Rattle.board.specs.Boards.{Sources}
 use Rattle.list.specs.Lists.{over}
 use Rattle.marks.specs.Marking.{unmarked}
 use Rattle.wire.specs.Requests.{Request, Sync, Ack, request_of}

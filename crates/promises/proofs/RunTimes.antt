@@ -10,8 +10,8 @@ use Rattle.event.specs.declared.refusal.Refusal.TheVariants.{TickBufferShort}
 use Rattle.event.specs.Bytes.{Bytes}
 use Rattle.event.specs.Identifiers.{has, any}
 use Rattle.event.specs.Outcomes.{Outcome, done, refusal}
-use Rattle.event.specs.Sources.{lawful_reading}
-use Rattle.board.specs.Boards.{Sources, ids, at}
+use Rattle.event.specs.Sources.{lawful_reading, ids}
+use Rattle.board.specs.Boards.{Sources, at}
 use Rattle.list.specs.Lists.{told, over}
 use Rattle.marks.specs.Marking.{occurrences}
 use Rattle.wire.specs.Messages.{event_message}

@@ -9,8 +9,8 @@ use Rattle.event.specs.Bytes.{Bytes}
 use Rattle.event.specs.Identifiers.{nothing, has}
 use Rattle.event.specs.Outcomes.{Outcome, done, refusal, refusal_over}
 use Rattle.event.specs.Refusals.{first_no}
-use Rattle.event.specs.Sources.{Occurrence, occurrence, lawful_reading}
-use Rattle.board.specs.Boards.{Sources, ids, at, reread, after_set}
+use Rattle.event.specs.Sources.{Occurrence, occurrence, lawful_reading, ids}
+use Rattle.board.specs.Boards.{Sources, at, reread, after_set}
 use Rattle.list.specs.Lists.{Told, these, overflow, told, over}
 use Rattle.marks.specs.Marking.{unmarked, occurrences}
 use Rattle.wire.specs.declared.types.Item.{Item}

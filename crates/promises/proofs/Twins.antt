@@ -9,8 +9,8 @@ use Rattle.event.specs.Bytes.{Bytes, within}
 use Rattle.event.specs.Identifiers.{has, any}
 use Rattle.event.specs.Outcomes.{Outcome, done, refusal, refusal_over}
 use Rattle.event.specs.Refusals.{first_no}
-use Rattle.event.specs.Sources.{Occurrence, lawful_reading}
-use Rattle.board.specs.Boards.{Sources, ids, at, after_set}
+use Rattle.event.specs.Sources.{Occurrence, lawful_reading, ids}
+use Rattle.board.specs.Boards.{Sources, at, after_set}
 use Rattle.list.specs.Lists.{Told, these, overflow, told, over}
 use Rattle.marks.specs.Lawful.{LawfulMarks}
 use Rattle.marks.specs.Marking.{Marking, unmarked, occurrences}

@@ -7,8 +7,8 @@ use Rattle.event.specs.Bytes.{Bytes}
 use Rattle.event.specs.Delays.{seconds_in_ticks, tenths_in_ticks}
 use Rattle.event.specs.Identifiers.{Words, nothing, has, switched, any}
 use Rattle.event.specs.Outcomes.{Outcome, done, refusal}
-use Rattle.event.specs.Sources.{Occurrence, lawful_reading}
-use Rattle.board.specs.Boards.{Sources, ids, at}
+use Rattle.event.specs.Sources.{Occurrence, lawful_reading, ids}
+use Rattle.board.specs.Boards.{Sources, at}
 use Rattle.list.specs.Lists.{told, over}
 use Rattle.marks.specs.Marking.{Marking, unmarked, update, occurrences}
 use Rattle.wire.specs.declared.types.Item.{Item}

@@ -4,7 +4,8 @@ use Rattle.event.specs.declared.id.UniqueId.{UniqueId}
 use Rattle.event.specs.declared.refusal.Refusal.TheVariants.{MessageBufferShort, NoMessage}
 use Rattle.event.specs.Bytes.{Bytes}
 use Rattle.event.specs.Outcomes.{Outcome, done, refusal}
-use Rattle.board.specs.Boards.{Sources, ids, at, after_set}
+use Rattle.event.specs.Sources.{ids}
+use Rattle.board.specs.Boards.{Sources, at, after_set}
 use Rattle.wire.specs.declared.types.Item.{Item}
 use Rattle.wire.specs.declared.types.Kind.{Kind}
 use Rattle.carrier.specs.Carriers.{Message, Line, linked_up, linked_down, withdrawn}

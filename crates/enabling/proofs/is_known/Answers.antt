@@ -2,7 +2,8 @@ use Rattle.std.proofs.Common.{rules, eqb, refl, sym, ◌∙◌, arith}
 use Rattle.std.proofs.lemmas.Iterator.{YieldsList-from_range}
 use Rattle.std.proofs.lemmas.Iterator.Consumers.{YieldsList-at, YieldsList-from_filter_map}
 use Rattle.std.proofs.lemmas.Iterator.Search.{any_from_yields_List}
-use Rattle.board.specs.Boards.{ids, at}
+use Rattle.event.specs.Sources.{ids}
+use Rattle.board.specs.Boards.{at}
 use Rattle.board.proofs.Rereads.{length_ids}
 use Rattle.enabling.proofs.Present.{known_places}
 use Rattle.enabling.proofs.is_known.Goals as goal

@@ -1,5 +1,5 @@
 use Rattle.std.proofs.Common.{true, false, refl, ◌∙◌}
-use Rattle.board.specs.Boards.{ids}
+use Rattle.event.specs.Sources.{ids}
 use Rattle.wire.specs.View.{left}
 use Rattle.enabling.proofs.Present.{item_more, item_end}
 use Rattle.enabling.proofs.switch.Goals as goal

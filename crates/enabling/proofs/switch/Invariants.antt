@@ -1,5 +1,5 @@
 use Rattle.std.proofs.Common.{◌≡◌}
-use Rattle.board.specs.Boards.{ids}
+use Rattle.event.specs.Sources.{ids}
 use Rattle.protocol.specs.Endpoint.{enabling}
 use Rattle.wire.specs.View.{left}
 use Rattle.enabling.proofs.switch.Given as goal

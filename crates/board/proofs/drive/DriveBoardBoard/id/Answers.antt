@@ -2,7 +2,8 @@ use Rattle.std.proofs.Common.{◌≡◌, ℕ, ◌≤◌, Some, None, Ok, Err, Re
 use Rattle.std.proofs.lemmas.Int.{ints}
 use Rattle.std.specs.Result.{OkIff, result_ok}
 use Rattle.std.proofs.lemmas.Option.{none-some, same_Some}
-use Rattle.board.specs.Boards.{at, ids}
+use Rattle.event.specs.Sources.{ids}
+use Rattle.board.specs.Boards.{at}
 use Rattle.board.specs.Drives.{of_controller, of_port, drive_sources}
 use Rattle.board.proofs.Drives.{id_controller, id_subsystem}
 use Rattle.board.proofs.Rereads.{at_past}

@@ -7,13 +7,13 @@ use Rattle.arrayvec.specs.ArrayVec.{ArrayVec}
 use Rattle.keys.specs.Keys.{twice}
 use Rattle.event.proofs.SameId.{same_id_test}
 use Rattle.event.specs.Bytes.{within}
-use Rattle.event.specs.Sources.{same_id}
+use Rattle.event.specs.Sources.{same_id, ids, all_lawful}
 use Rattle.event.specs.View.{occurrence_of}
 use Rattle.event.specs.declared.id.UniqueId.{UniqueId}
 use Rattle.event.specs.declared.occurrence.Occurrence.{Occurrence as Row}
 use Rattle.event.specs.declared.refusal.Refusal.{Refusal}
 use Rattle.event.specs.declared.refusal.Refusal.TheVariants.{RowCount}
-use Rattle.board.specs.Boards.{ids, all_lawful, lawful_board}
+use Rattle.board.specs.Boards.{lawful_board}
 use Rattle.board.specs.Tables.{rows_told}
 use Rattle.board.proofs.Tables.{ids_rows, refuse_count, refuse_unlawful, refuse_twice, refuse_none, rows-lawful}
 use Rattle.board.proofs.table.TableBoard.new.Goals as goal

@@ -1,5 +1,5 @@
 use Rattle.std.proofs.Common.{rules}
-use Rattle.board.specs.Boards.{ids}
+use Rattle.event.specs.Sources.{ids}
 use Rattle.endpoint.proofs.Asked.{none_over}
 use Rattle.endpoint.proofs.types.Endpoint.ack.Goals as goal
 

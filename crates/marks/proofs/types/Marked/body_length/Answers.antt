@@ -2,7 +2,7 @@ use Rattle.std.proofs.Common.{◌≡◌, ◌^◌, length, sym, ◌∙◌, arith,
 use borrow.Author.Tests.{tests}
 use Rattle.std.proofs.lemmas.Iterator.{YieldsList-from_range}
 use Rattle.std.proofs.lemmas.Iterator.Consumers.{YieldsList-from_filter_map, sum_from_yields_List, fits_from_yields_list}
-use Rattle.board.specs.Boards.{ids}
+use Rattle.event.specs.Sources.{ids}
 use Rattle.board.proofs.Rereads.{length_ids, few_sources}
 use Rattle.marks.specs.View.{marks_of}
 use Rattle.marks.proofs.Sizes.{size, sizes, body-short}

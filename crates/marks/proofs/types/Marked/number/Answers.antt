@@ -1,6 +1,6 @@
 use Rattle.std.proofs.Common.{◌%◌, ◌^◌, sym, ◌∙◌, div-one, arith}
 use lib.Count.{ones}
-use Rattle.board.specs.Boards.{ids}
+use Rattle.event.specs.Sources.{ids}
 use Rattle.marks.proofs.Shown.{number_is}
 use Rattle.board.proofs.Rereads.{length_ids, few_sources}
 use Rattle.marks.proofs.types.Marked.number.Goals as goal

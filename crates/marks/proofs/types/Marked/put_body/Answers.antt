@@ -3,9 +3,8 @@ use borrow.Rule.Slice.PartMut.{put_mid}
 use Rattle.event.specs.declared.id.UniqueId.{UniqueId}
 use Rattle.event.specs.declared.reading.Reading.{Reading}
 use Rattle.event.specs.Bytes.{placed}
-use Rattle.event.specs.Sources.{occurrence}
+use Rattle.event.specs.Sources.{occurrence, ids}
 use Rattle.event.specs.View.{held}
-use Rattle.board.specs.Boards.{ids}
 use Rattle.list.specs.Lists.{occurrence_bytes}
 use Rattle.event.proofs.Placed.{placed-placed, placed-none}
 use Rattle.marks.specs.Marking.{Marking}

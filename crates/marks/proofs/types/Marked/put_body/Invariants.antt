@@ -1,6 +1,6 @@
 use Rattle.std.proofs.Common.{◌≡◌, ◌+◌, length}
 use Rattle.event.specs.Bytes.{placed}
-use Rattle.board.specs.Boards.{ids}
+use Rattle.event.specs.Sources.{ids}
 use Rattle.list.specs.Lists.{body}
 use Rattle.marks.specs.View.{marks_of, occurrences_in}
 use Rattle.marks.proofs.Listing.{rest}
