@@ -1,6 +1,6 @@
 //! Words that are items of an enable list.
-ghost use Rattle.std.specs.Prelude.{◌≡◌, []};
-ghost use Rattle.syntax.specs.Strings.{Gives};
+ghost use Rattle.std.specs.Prelude.{◌≡◌, true, [], IsOk};
+ghost use Rattle.syntax.specs.Strings.{Gives, is_dash};
 ghost use Rattle.script.specs.Items.{item_of, items_from, items_of};
 
 use std::alloc::Global;
@@ -36,9 +36,10 @@ fn listed(heap: Global, word: &[u8]) -> Result<Vec<Item>, Fault>
     Ok(items)
 }
 
-/// The items that a word says, with commas between them, or `-` for none.
+/// The items that a word says, with commas between them, or `-` for none, which takes no memory.
 pub(crate) fn items(heap: Global, word: &[u8]) -> Result<Vec<Item>, Fault>
-    ensures { Gives result (items_of word.now) }
+    ensures said { Gives result (items_of word.now) }
+    ensures none { is_dash word.now ≡ true → IsOk result }
 {
     if is_dash(word) {
         return Ok(Vec::new(heap));

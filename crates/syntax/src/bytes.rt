@@ -1,5 +1,5 @@
 //! Words that are strings of bytes.
-ghost use Rattle.std.specs.Prelude.{◌≡◌};
+ghost use Rattle.std.specs.Prelude.{◌≡◌, true, IsOk};
 ghost use Rattle.syntax.specs.Strings.{Gives, is_dash, pairs_of, bytes_of};
 
 use crate::digit::digit;
@@ -30,9 +30,10 @@ fn pairs(heap: Global, word: &[u8]) -> Result<Vec<u8>, Fault>
     Ok(bytes)
 }
 
-/// The bytes that a word says: pairs of hexadecimal digits, or `-` for none.
+/// The bytes that a word says: pairs of hexadecimal digits, or `-` for none, which takes no memory.
 pub fn bytes(heap: Global, word: &[u8]) -> Result<Vec<u8>, Fault>
-    ensures { Gives result (bytes_of word.now) }
+    ensures said { Gives result (bytes_of word.now) }
+    ensures none { is_dash word.now ≡ true → IsOk result }
 {
     if is_dash(word) {
         return Ok(Vec::new(heap));

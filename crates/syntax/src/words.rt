@@ -1,5 +1,5 @@
 //! The words of a line.
-ghost use Rattle.std.specs.Prelude.{◌≡◌, IfOk, IsOkUnless};
+ghost use Rattle.std.specs.Prelude.{◌≡◌, [], IfOk, IsOk, IsOkUnless};
 ghost use Rattle.syntax.specs.Lines.{uncommented, blank, words_of, spaced, texts};
 
 use crate::fault::Fault;
@@ -31,10 +31,11 @@ pub fn words<'a>(heap: Global, line: &'a [u8]) -> Result<Vec<&'a [u8]>, Fault>
     Ok(pieces.filter(|piece| !piece.is_empty()).collect(heap)?)
 }
 
-/// Words joined by one blank.
+/// Words joined by one blank; no words take no memory.
 pub fn joined(heap: Global, words: &[&[u8]]) -> Result<Vec<u8>, Fault>
     ensures text { IfOk result (λ v. v.items ≡ spaced (texts words.now)) }
     ensures only { IsOkUnless result Fault.OutOfMemory }
+    ensures none { words.now ≡ [] → IsOk result }
 {
     let mut text = Vec::new(heap);
     let [first, rest @ ..] = words else {
