@@ -4,7 +4,7 @@ use Rattle.std.specs.List.{slice_get, list_all}
 use Rattle.std.specs.Option.{option_map, MatchOption, IsSomeAnd}
 use Rattle.std.specs.Slice.{IsItemAt}
 use Rattle.std.proofs.lemmas.List.{set-get_or}
-use Rattle.std.proofs.lemmas.Option.{cond_some, slice_get_past, slice_get_read}
+use Rattle.std.proofs.lemmas.Option.{cond_some, slice_get-map, slice_get_past, slice_get_read}
 use Rattle.keys.specs.Keys.{twice}
 use Rattle.event.specs.Bytes.{Bytes, within}
 use Rattle.event.specs.Sources.{same_id, lawful_reading, lawful_occurrence, ids, all_lawful}
@@ -19,31 +19,36 @@ use Rattle.board.proofs.Rereads.{takes_at, after_taken, after_refused, lawful_fr
 
 -- ROWS
 
+-- what stands at a place of any list
+at_get : {A : Type 0} (l : List A) (place : ℕ) → at l place ≡ slice_get l place
+unfolding at
+at_get [] place = refl
+at_get (x ∷ l) zero = refl
+at_get (x ∷ l) (suc place) = at_get l place
+
 -- what stands at a place is what the row there tells
 at_row : (rows : List Row) (place : ℕ) → at (rows_told rows) place ≡ option_map occurrence_of (slice_get rows place)
-unfolding at
-at_row [] place = refl
-at_row (row ∷ rows) zero = refl
-at_row (row ∷ rows) (suc place) = at_row rows place
-
--- its ID is that of the row
-pub id_row : (rows : List Row) (place : ℕ) → at (ids (rows_told rows)) place ≡ option_map (λ (row : Row). row.id) (slice_get rows place)
-unfolding at
-id_row [] place = refl
-id_row (row ∷ rows) zero = refl
-id_row (row ∷ rows) (suc place) = id_row rows place
-
--- and its reading
-pub reading_row : (rows : List Row) (place : ℕ) → reading_of (at (rows_told rows) place) ≡ held_if (option_map (λ (row : Row). row.reading) (slice_get rows place))
-unfolding at
-reading_row [] place = refl
-reading_row (row ∷ rows) zero = refl
-reading_row (row ∷ rows) (suc place) = reading_row rows place
+at_row rows place = at_get (rows_told rows) place ∙ slice_get-map occurrence_of rows place
 
 -- all IDs are those of the rows
 pub ids_rows : (rows : List Row) → ids (rows_told rows) ≡ map (λ (row : Row). row.id) rows
 ids_rows [] = refl
 ids_rows (row ∷ rows) = ap (λ (us : List UniqueId). row.id ∷ us) (ids_rows rows)
+
+-- the ID at a place is that of the row there
+pub id_row : (rows : List Row) (place : ℕ) → at (ids (rows_told rows)) place ≡ option_map (λ (row : Row). row.id) (slice_get rows place)
+id_row rows place =
+    ap (λ (us : List UniqueId). at us place) (ids_rows rows)
+    ∙ at_get (map (λ (row : Row). row.id) rows) place
+    ∙ slice_get-map (λ (row : Row). row.id) rows place
+
+-- and so is the reading
+pub reading_row : (rows : List Row) (place : ℕ) → reading_of (at (rows_told rows) place) ≡ held_if (option_map (λ (row : Row). row.reading) (slice_get rows place))
+reading_row rows place = ap reading_of (at_row rows place) ∙ told (slice_get rows place)
+  where
+    told : (o : Option Row) → reading_of (option_map occurrence_of o) ≡ held_if (option_map (λ (row : Row). row.reading) o)
+    told None = refl
+    told (Some row) = refl
 
 -- rows are lawful exactly if each is
 pub rows_all_lawful : (rows : List Row) → list_all (λ (row : Row). lawful_occurrence (occurrence_of row)) rows ≡ all_lawful (rows_told rows)

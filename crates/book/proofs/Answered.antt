@@ -1,5 +1,5 @@
 -- The list of an answer that is read is lawful. Assumes nothing.
-use Rattle.std.proofs.Common.{◌≡◌, ℕ, true, Some, None, Ok, Option, Result, subst, arith}
+use Rattle.std.proofs.Common.{◌≡◌, true, Some, None, Ok, Option, Result, subst}
 use Rattle.event.specs.Bytes.{Bytes}
 use Rattle.list.specs.Lists.{lawful_told}
 use Rattle.list.specs.View.{told_by}
@@ -13,7 +13,7 @@ use Rattle.wire.specs.declared.types.Message.TheVariants.{Sync, Ack, Event, Answ
 
 -- what is read of an answer
 answer-is : (o : Option AnswerRead) (a : AnswerRead) → Ok (answer a) ≡ answer_in o → o ≡ Some a
-answer-is None a e = let z : ◌≡◌ {A = ℕ} 0 1 = cc in absurd (omega arith)
+answer-is None a e = absurd (cc)
 answer-is (Some b) a e = cc
 
 -- the list of an answer
@@ -25,9 +25,9 @@ list_in (Answer slot list) = Some list
 
 -- the list of an answer that is read is lawful
 pub answer-lawful : (bytes : Bytes) (m : Message) (l : Result Occurrences Overflow) → OnlyAnswer → Ok (read_by m) ≡ answer_in (read_answer bytes) → list_in m ≡ Some l → lawful_told (told_by l) ≡ true
-answer-lawful bytes (Sync slot delays items) l only e f = let z : ◌≡◌ {A = ℕ} 0 1 = cc in absurd (omega arith)
-answer-lawful bytes (Ack slot list) l only e f = let z : ◌≡◌ {A = ℕ} 0 1 = cc in absurd (omega arith)
-answer-lawful bytes (Event generation retries list) l only e f = let z : ◌≡◌ {A = ℕ} 0 1 = cc in absurd (omega arith)
+answer-lawful bytes (Sync slot delays items) l only e f = absurd (cc)
+answer-lawful bytes (Ack slot list) l only e f = absurd (cc)
+answer-lawful bytes (Event generation retries list) l only e f = absurd (cc)
 answer-lawful bytes (Answer slot list) l only e f =
     let same : list ≡ l = cc in
     subst (λ (x : Result Occurrences Overflow). lawful_told (told_by x) ≡ true) same (only bytes _ (answer-is (read_answer bytes) _ e)).lawful

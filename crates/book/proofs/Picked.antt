@@ -29,8 +29,8 @@ heard-written phase bytes (Some v) k =
 found-heard : (roomy : Bool) (message : Option Message) (phase : Phase) (k after : Book) (buffer left bytes : Bytes) (n : ℕ) (r : Result ℕ Refusal)
     → Ok n ≡ cond roomy (count_of message) (Err MessageBufferShort) → left ≡ cond roomy (copied message buffer) buffer → bytes ≡ take (n - 0) left
     → Spends (heard phase bytes (read_event bytes) k) after r → Does (finds (first_no (ask roomy MessageBufferShort ∷ [])) phase message k) after buffer left r
-found-heard false message phase k after buffer left bytes n r e f g s = let z : ◌≡◌ {A = ℕ} 0 1 = cc in absurd (omega arith)
-found-heard true None phase k after buffer left bytes n r e f g s = let z : ◌≡◌ {A = ℕ} 0 1 = cc in absurd (omega arith)
+found-heard false message phase k after buffer left bytes n r e f g s = absurd (cc)
+found-heard true None phase k after buffer left bytes n r e f g s = absurd (cc)
 found-heard true (Some m) phase k after buffer left bytes n r e f g s =
     let long : n ≡ length m.bytes = cc in
     let front : left ≡ over_front m.bytes buffer = f ∙ copied-front m buffer in
@@ -49,8 +49,8 @@ pick_heard line k after buffer left bytes n r h e f g s =
 
 -- what a fetch counts is in the buffer
 count_inside : (roomy : Bool) (message : Option Message) (buffer : Bytes) (n : ℕ) → Ok n ≡ cond roomy (count_of message) (Err MessageBufferShort) → n ≤ length (cond roomy (copied message buffer) buffer)
-count_inside false message buffer n e = let z : ◌≡◌ {A = ℕ} 0 1 = cc in absurd (omega arith)
-count_inside true None buffer n e = let z : ◌≡◌ {A = ℕ} 0 1 = cc in absurd (omega arith)
+count_inside false message buffer n e = absurd (cc)
+count_inside true None buffer n e = absurd (cc)
 count_inside true (Some m) buffer n e =
     let long : n ≡ length m.bytes = cc in
     omega (arith, ap length (copied-front m buffer), length-append m.bytes (drop (length m.bytes) buffer))

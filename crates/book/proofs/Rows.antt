@@ -10,6 +10,7 @@ use Rattle.event.specs.Sources.{Occurrence, occurrence, same_id}
 use Rattle.event.specs.View.{held}
 use Rattle.event.proofs.SameId.{same_id_test}
 use Rattle.board.specs.Boards.{at}
+use Rattle.board.proofs.Rereads.{at_past}
 use Rattle.protocol.specs.Book.{find, enter, merge}
 use Rattle.book.specs.declared.table.Table.{Table}
 use Rattle.book.specs.Tables.{paired, rows, entered}
@@ -165,16 +166,10 @@ at-paired (k ∷ ks) [] place u r i j = absurd (omega arith)
 at-paired (k ∷ ks) (x ∷ rs) zero u r i j = refl
 at-paired (k ∷ ks) (x ∷ rs) (suc place) u r i j = at-paired ks rs place u r (omega arith) (omega arith)
 
-at-past : (es : List Occurrence) (place : ℕ) → length es ≤ place → at es place ≡ None
-unfolding at
-at-past [] place h = refl
-at-past (e ∷ es) zero h = absurd (omega arith)
-at-past (e ∷ es) (suc place) h = at-past es place (omega arith)
-
 -- past the last entry there is none
 pub no_row : (t : Table) (place : ℕ) → length t.keys.items ≤ place → at (rows t) place ≡ None
 unfolding rows
-no_row t place h = at-past (paired t.keys.items t.readings.items) place (omega (arith, length-rows t.keys.items t.readings.items t.level))
+no_row t place h = at_past (paired t.keys.items t.readings.items) place (omega (arith, length-rows t.keys.items t.readings.items t.level))
 
 -- an entry is the unique ID and the reading at its place
 pub row_at : (t : Table) (place : ℕ) (u : UniqueId) (r : Reading) → place < length t.keys.items → at (rows t) place ≡ Some (occurrence (get_or t.keys.items place u) (held (get_or t.readings.items place r)))

@@ -21,8 +21,8 @@ put_taken line destination bytes e = cond-true (takes line bytes) (linked line.l
 
 -- what is counted lies there, and there was room for it
 counted : (roomy : Bool) (lying : Option Message) (n : ℕ) → lying_fits lying ≡ true → cond roomy (count_of lying) (Err MessageBufferShort) ≡ Ok n → (roomy ≡ true) × (0 < n) × (n ≤ 4224)
-counted false lying n f e = let z : ◌≡◌ {A = ℕ} 0 1 = cc in absurd (omega arith)
-counted true None n f e = let z : ◌≡◌ {A = ℕ} 0 1 = cc in absurd (omega arith)
+counted false lying n f e = absurd (cc)
+counted true None n f e = absurd (cc)
 counted true (Some m) n f e = let l : length m.bytes ≡ n = cc in let h = fits_length m.bytes f in (refl, omega arith, omega arith)
 
 -- a fetch that counts bytes had room for them: 1 to 4,224, in a buffer of at least so many

@@ -5,6 +5,7 @@ use mathlib.Core.Path.{fun_ext}
 use Rattle.std.proofs.lemmas.List.{drop_all}
 use Rattle.std.proofs.lemmas.Bool.{eq-eqb, ne_eqb}
 use Rattle.std.proofs.lemmas.Bool.Decides.{eqb_tells}
+use Rattle.std.proofs.lemmas.Option.{none-some, same_Some}
 use Rattle.event.specs.declared.id.UniqueId.{UniqueId}
 use Rattle.event.specs.Bytes.{Bytes}
 use Rattle.event.specs.Identifiers.{Words, has, switched}
@@ -84,17 +85,11 @@ module _ (words : Words) (told : Sources) (i : ℕ) where
       → m ≡ Among words told i → n ≡ update m i (Some r) → n ≡ Among words told (i + 1)
   shot_marked u r m n e on f inv set =
       let p = at_source told i u (sym e) in
-      let is : r ≡ p.0.reading = same_reading r p.0 (f ∙ ap reading_of p.1) in
+      let is : r ≡ p.0.reading = same_Some r p.0.reading (f ∙ ap reading_of p.1) in
       set ∙ (λ j. update (inv j) i (Some (is j))) ∙ more p.0 p.1 (ap (λ (v : UniqueId). has words v.identifier) p.2 ∙ sym on)
-    where
-      same_reading : (r : Bytes) (s : Occurrence) → Some r ≡ Some s.reading → r ≡ s.reading
-      same_reading r s e = cc
 
   pub shot_never : (u : UniqueId) → Some u ≡ at (ids told) i → None ≡ reading_of (at told i) → ⊥
-  shot_never u e f = let p = at_source told i u (sym e) in never p.0.reading (f ∙ ap reading_of p.1)
-    where
-      never : (r : Bytes) → None ≡ Some r → ⊥
-      never r e = let z : ◌≡◌ {A = ℕ} 0 1 = cc in omega arith
+  shot_never u e f = let p = at_source told i u (sym e) in none-some p.0.reading (f ∙ ap reading_of p.1)
 
   pub shot_off : (u : UniqueId) → Some u ≡ at (ids told) i → false ≡ has words u.identifier → Among words told i ≡ Among words told (i + 1)
   shot_off u e off =

@@ -1,5 +1,5 @@
 -- What a request comes to, once it is read. Assumes nothing.
-use Rattle.std.proofs.Common.{◌≡◌, ℕ, suc, ◌≤◌, Bool, false, cond, List, [], ◌∷◌, Some, None, Ok, Err, Option, Result, sym, refl, ap, ◌∙◌, subst, arith}
+use Rattle.std.proofs.Common.{◌≡◌, ℕ, suc, ◌≤◌, Bool, false, cond, List, [], ◌∷◌, Some, None, Ok, Err, Option, Result, sym, refl, ap, ◌∙◌, subst}
 use Rattle.std.proofs.lemmas.Bool.{le-leb}
 use Rattle.event.specs.declared.id.UniqueId.{UniqueId}
 use Rattle.event.specs.declared.refusal.Refusal.{Refusal}
@@ -43,7 +43,7 @@ module _ (room sender : ℕ) (bytes : Bytes) (board : Sources) (line : Line) (e 
       go None is said =
           let same : q ≡ request_of bytes = cc in
           by_refusal None h is (subst (λ (p : Request). Turned (handle sender p board line e) after carried buffer filled r) same w)
-      go (Some f) is said = let never : ◌≡◌ {A = ℕ} 0 1 = cc in absurd (omega arith)
+      go (Some f) is said = absurd (cc)
 
 -- a request that is refused
 pub refused : (room sender : ℕ) (bytes : Bytes) (board : Sources) (line : Line) (e : Endpoint) (buffer : Bytes) (f : Refusal) → 4115 ≤ room → Err f ≡ request_in (read_request bytes)
@@ -52,7 +52,7 @@ unfolding read_request
 refused room sender bytes board line e buffer f h read = go (request_refusal bytes) refl read
   where
     go : (o : Option Refusal) → request_refusal bytes ≡ o → Err f ≡ request_in (read_as o bytes) → Turned (request room sender bytes board line e) e line buffer buffer (Err f)
-    go None is said = let never : ◌≡◌ {A = ℕ} 0 1 = cc in absurd (omega arith)
+    go None is said = absurd (cc)
     go (Some k) is said =
         let same : f ≡ k = cc in
         by_refusal room sender bytes board line e e line buffer buffer (Err f) (Some k) h is

@@ -5,13 +5,14 @@ use Rattle.event.specs.declared.id.UniqueId.{UniqueId}
 use Rattle.event.specs.declared.refusal.Refusal.{Refusal}
 use Rattle.event.specs.declared.refusal.Refusal.TheVariants.{NoSuchPlace, UnlawfulReading}
 use Rattle.event.specs.Bytes.{Bytes}
+use Rattle.event.specs.Identifiers.{has}
 use Rattle.event.specs.Outcomes.{done, refusal}
 use Rattle.event.specs.Sources.{lawful_reading, ids}
 use Rattle.board.specs.Boards.{Sources, at, lawful_board, lawful_if, takes, after_set}
 use Rattle.board.specs.Changes.{change_refusal, handed_back}
 use Rattle.board.proofs.Changes.{change-below}
 use Rattle.board.proofs.Rereads.{at-inside, length_ids, after_refused, few_sources}
-use Rattle.protocol.specs.Endpoint.{Endpoint, change, changed, change_outcome}
+use Rattle.protocol.specs.Endpoint.{Endpoint, mark, change, changed, change_outcome}
 use Rattle.endpoint.specs.View.{Changed}
 
 -- every place of a board can be marked
@@ -65,9 +66,10 @@ module _ (ss : Sources) (p : ℕ) (r : Bytes) where
             let f_is : f ≡ UnlawfulReading = cc in
             rw f_is (by_reading false e told (sym (takes-is u h) ∙ sym is) refl set)
 
-    pub taken : (after : Endpoint) (told : Sources) → Ok tt ≡ handed_back (change_refusal ss p r) → after ≡ changed u p r e → told ≡ after_set ss p r → Changed ss p r e after told (Ok 0)
-    taken after told back leaves set = go (takes ss p r) refl (back ∙ handed)
+    pub taken : (on : Bool) (after : Endpoint) (told : Sources) → Ok tt ≡ handed_back (change_refusal ss p r) → on ≡ has e.enabled u.identifier → after ≡ cond on (mark e.state p r e) e → told ≡ after_set ss p r
+        → Changed ss p r e after told (Ok 0)
+    taken on after told back enabled leaves set = go (takes ss p r) refl (back ∙ handed)
       where
         go : (b : Bool) → b ≡ takes ss p r → Ok tt ≡ handed_back (cond b None (Some UnlawfulReading)) → Changed ss p r e after told (Ok 0)
-        go true is back = by_reading true after told (sym (takes-is u h) ∙ sym is) leaves set
+        go true is back = by_reading true after told (sym (takes-is u h) ∙ sym is) (leaves ∙ ap (λ (b : Bool). cond b (mark e.state p r e) e) enabled) set
         go false is back = absurd (search rules)

@@ -1,7 +1,7 @@
 //! The search for a key in a row of keys: one text for every kind of key.
 #![tactic(auto)]
 
-ghost use Rattle.std.specs.Prelude.{◌≡◌, Bool};
+ghost use Rattle.std.specs.Prelude.{◌≡◌, Bool, true, false};
 ghost use Rattle.std.specs.declared.cmp.Ordering.{Ordering};
 ghost use Rattle.std.specs.Ordering.{is_eq, nat_cmp};
 ghost use Rattle.keys.specs.Keys.{Sought, Test, twice};
@@ -48,6 +48,21 @@ pub fn find<K: Key>(keys: &[K], key: &K) -> Option<usize>
 
 /// Whether a key stands in the row twice.
 pub fn has_twice<K: Key>(keys: &[K]) -> bool
+    ensures { (same : K → K → Bool) → Test same → result ≡ twice same keys.now }
+{
+    // Rows mostly ascend, since boards do, and one pass tells so.
+    !ascends(keys) && repeats(keys)
+}
+
+// Whether each key is less than the next. Then none stands there twice.
+fn ascends<K: Key>(keys: &[K]) -> bool
+    ensures { (same : K → K → Bool) → Test same → result ≡ true → twice same keys.now ≡ false }
+{
+    keys.is_sorted_by(|x, y| x.compare(y).is_lt())
+}
+
+// Whether a key stands among those behind it.
+fn repeats<K: Key>(keys: &[K]) -> bool
     ensures { (same : K → K → Bool) → Test same → result ≡ twice same keys.now }
 {
     keys.iter()

@@ -1,5 +1,5 @@
 -- What a refusal leaves. Assumes nothing.
-use Rattle.std.proofs.Common.{◌≡◌, ℕ, Bool, true, false, cond, not, ◌&&◌, eqb, leb, List, [], ◌∷◌, length, Some as some, None as none, Ok, Err, Option, Result, sym, refl, ap, ◌∙◌, subst, arith}
+use Rattle.std.proofs.Common.{◌≡◌, ℕ, Bool, true, false, cond, not, ◌&&◌, eqb, leb, List, [], ◌∷◌, length, Some as some, None as none, Ok, Err, Option, Result, sym, refl, ap, ◌∙◌, subst}
 use Rattle.std.proofs.lemmas.Option.{same_Some}
 use Rattle.std.proofs.lemmas.Bool.{and_parts, not-true}
 use Rattle.event.specs.declared.id.UniqueId.{UniqueId}
@@ -40,7 +40,7 @@ use Rattle.promises.proofs.Ticks.{timed_way}
 -- RESULTS
 
 succeeded : {B : Type 0} (n : ℕ) (r : Refusal) → Ok n ≡ Err r → B
-succeeded n r e = absurd (let z : ◌≡◌ {A = ℕ} 0 1 = cc in omega arith)
+succeeded n r e = absurd (cc)
 
 same_refusal : (r' r : Refusal) → ◌≡◌ {A = Result ℕ Refusal} (Err r') (Err r) → r' ≡ r
 same_refusal r' r e = cc

@@ -26,6 +26,7 @@ use Rattle.protocol.specs.Promise.{Marked, Had}
 use Rattle.board.proofs.Rereads.{at-ids}
 use Rattle.promises.proofs.Lists.{never, At, find_source, merge_source, merge-at}
 use Rattle.promises.proofs.Words.{none_in}
+use Rattle.promises.proofs.EndpointKeeps.{nothing-marked}
 use Rattle.promises.proofs.Invariant.{LawfulReadings, Laws, Now, Right, Quiet, Shows, Held, Knows, Sound, Says, Learned}
 
 -- THE PRESENT READINGS
@@ -56,18 +57,6 @@ is_overflow overflow = true
 these_of : Told → List Occurrence
 these_of (these os) = os
 these_of overflow = []
-
--- no marks are right
-pub nothing-marked : (us : List UniqueId) (enabled : Words) (b : Sources) → ids b ≡ us → LawfulReadings b → Right us enabled unmarked unmarked b
-unfolding unmarked
-nothing-marked us enabled b same ok = record {
-  same = same;
-  board = ok;
-  prior-lawful = λ p u r a x. never r x;
-  since-lawful = λ p u r a x. never r x;
-  since_now = λ q u r a x y. never r y;
-  prior_now = λ q u r a x y z. never r y;
-}
 
 pub reportable-lawful : (us : List UniqueId) (s : State) (m : Marking) → LawfulMarks us m → LawfulMarks us (reportable s m)
 unfolding unmarked

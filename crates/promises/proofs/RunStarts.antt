@@ -1,12 +1,10 @@
 -- The endpoint is armed by starting over, and in no other way. Assumes nothing.
-use Rattle.std.proofs.Common.{◌≡◌, ℕ, ◌+◌, Bool, true, false, cond, not, ◌&&◌, eqb, ltb, leb, ◌⊎◌, List, [], Some as some, None as none, Option, sym, refl, ap, ◌∙◌, subst, inl, inr, true≢false}
+use Rattle.std.proofs.Common.{◌≡◌, ℕ, Bool, true, false, cond, not, ◌&&◌, ◌⊎◌, Some as some, None as none, Option, sym, refl, ◌∙◌, inl, inr, true≢false}
 use mathlib.Core.Bool.{false≢true}
-use Rattle.event.specs.declared.id.UniqueId.{UniqueId}
 use Rattle.event.specs.declared.refusal.Refusal.{Refusal}
-use Rattle.event.specs.declared.refusal.Refusal.TheVariants.{TickBufferShort}
 use Rattle.event.specs.Bytes.{Bytes}
 use Rattle.event.specs.Identifiers.{any}
-use Rattle.event.specs.Outcomes.{Outcome, done, refusal}
+use Rattle.event.specs.Outcomes.{Outcome, done}
 use Rattle.event.specs.Sources.{ids}
 use Rattle.board.specs.Boards.{Sources}
 use Rattle.list.specs.Lists.{over}
@@ -15,7 +13,7 @@ use Rattle.wire.specs.Requests.{Request, Sync, Ack, request_of}
 use Rattle.carrier.specs.Carriers.{Line}
 use Rattle.protocol.specs.declared.types.State.{State}
 use Rattle.protocol.specs.declared.types.State.TheVariants.{Off, Armed, Sending, Failed}
-use Rattle.protocol.specs.Endpoint.{Endpoint, in_state, fail, stay, send, again, timed, Turn, turn, reported, reply, enabling, acknowledge, accept, refusal_of, requested}
+use Rattle.protocol.specs.Endpoint.{Endpoint, Turn, turn, reported, reply, enabling, acknowledge, accept, refusal_of, requested}
 use Rattle.protocol.specs.Pair.{
   Pair,
   Call,
@@ -36,8 +34,7 @@ use Rattle.protocol.specs.Pair.{
   step,
 }
 use Rattle.protocol.specs.Runs.{is_armed, has_sent, starts_over_by, starts_over_if, starts_over, StartingOver}
-use Rattle.promises.proofs.RunTimes.{Goes, goes}
-use Rattle.promises.proofs.Ticks.{either}
+use Rattle.promises.proofs.RunTimes.{goes, Past, step_past}
 
 -- what starting over leaves
 abbrev Empty : Turn → Type 0
@@ -83,31 +80,16 @@ leaves_empty p (picks_up room) x = absurd (false≢true x)
 leaves_empty p (fetches room) x = absurd (false≢true x)
 leaves_empty p (shows id room) x = absurd (false≢true x)
 
--- no tick arms
-timed_unarmed : (us : List UniqueId) (c : Line) (s : State) (e : Endpoint) → e.state ≡ s → is_armed s ≡ false → is_armed (timed us s c e).endpoint.state ≡ false
-timed_unarmed us c Off e is x = ap is_armed is
-timed_unarmed us c (Armed age) e is x = absurd (true≢false x)
-timed_unarmed us c (Sending attempt waited) e is x =
-    let P : Turn → Type 0 = λ t. is_armed t.endpoint.state ≡ false in
-    either P (eqb e.retry 0) (stay c e) (cond (ltb (waited + 1) e.retry) (stay c (in_state (Sending attempt (waited + 1)) e)) (again us attempt c e)) (ap is_armed is)
-    (either P (ltb (waited + 1) e.retry) (stay c (in_state (Sending attempt (waited + 1)) e)) (again us attempt c e) refl
-    (either P (ltb attempt 8) (send us attempt c (in_state (Sending (attempt + 1) 0) e)) (fail [] c e) refl refl))
-timed_unarmed us c Failed e is x = ap is_armed is
+-- nothing else arms
+unarmed : Past (λ s. is_armed s ≡ false)
+unarmed = record { armed = λ age. true≢false; sending = λ attempt waited. refl; failed = refl }
 
 only_so : (p : Pair) (c : Call) → is_armed p.endpoint.state ≡ false → is_armed (step p c).pair.endpoint.state ≡ true → starts_over c p ≡ true
 only_so p c before after = go (starts_over c p) refl
   where
-    unarmed : Goes p c → is_armed (step p c).pair.endpoint.state ≡ false
-    unarmed (inl y) = ap is_armed y.1.state ∙ before
-    unarmed (inr y) =
-        let us = ids p.board in
-        let e = p.endpoint in
-        subst (λ d. is_armed (step p d).pair.endpoint.state ≡ false) (sym y.1)
-        (either (λ t. is_armed t.endpoint.state ≡ false) (leb 4111 y.0) (timed us e.state p.line e) (turn e p.line (refusal TickBufferShort)) (timed_unarmed us p.line e.state e refl before) before)
-
     go : (v : Bool) → starts_over c p ≡ v → v ≡ true
     go true is = refl
-    go false is = absurd (true≢false (sym after ∙ unarmed (goes p c is)))
+    go false is = absurd (true≢false (sym after ∙ step_past (λ s. is_armed s ≡ false) unarmed p c (goes p c is) before))
 
 pub starting_over : StartingOver
 starting_over = record { leaves = leaves_empty; only = only_so }

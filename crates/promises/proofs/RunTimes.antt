@@ -179,28 +179,39 @@ one_tick c cs room is fits = ap (λ v. cond v 1 0 + ticks_in cs) (ap is_tick is 
 
 -- THE FIRST ATTEMPT
 
+-- what is so of a state, not of Armed, and of Sending and Failed
+pub record Past (P : State → Type 0) : Type 0 where
+  pub armed : (age : ℕ) → P (Armed age) → ⊥
+  pub sending : (attempt waited : ℕ) → P (Sending attempt waited)
+  pub failed : P Failed
+
+-- no tick ends it
+timed_past : (P : State → Type 0) → Past P → (us : List UniqueId) (c : Line) (s : State) (e : Endpoint) → e.state ≡ s → P s → P (timed us s c e).endpoint.state
+timed_past P k us c Off e is x = subst P (sym is) x
+timed_past P k us c (Armed age) e is x = absurd (k.armed age x)
+timed_past P k us c (Sending attempt waited) e is x =
+    let Q : Turn → Type 0 = λ t. P t.endpoint.state in
+    either Q (eqb e.retry 0) (stay c e) (cond (ltb (waited + 1) e.retry) (stay c (in_state (Sending attempt (waited + 1)) e)) (again us attempt c e)) (subst P (sym is) x)
+    (either Q (ltb (waited + 1) e.retry) (stay c (in_state (Sending attempt (waited + 1)) e)) (again us attempt c e) (k.sending attempt (waited + 1))
+    (either Q (ltb attempt 8) (send us attempt c (in_state (Sending (attempt + 1) 0) e)) (fail [] c e) (k.sending (attempt + 1) 0) k.failed))
+timed_past P k us c Failed e is x = subst P (sym is) x
+
+-- nor does any call that does not start over
+pub step_past : (P : State → Type 0) → Past P → (p : Pair) (c : Call) → Goes p c → P p.endpoint.state → P (step p c).pair.endpoint.state
+step_past P k p c (inl y) x = subst P (sym y.1.state) x
+step_past P k p c (inr y) x =
+    let us = ids p.board in
+    let e = p.endpoint in
+    subst (λ d. P (step p d).pair.endpoint.state) (sym y.1)
+    (either (λ t. P t.endpoint.state) (leb 4111 y.0) (timed us e.state p.line e) (turn e p.line (refusal TickBufferShort)) (timed_past P k us p.line e.state e refl x) x)
+
 -- once a message was sent, the endpoint is not Armed until it starts over
-timed_sent : (us : List UniqueId) (c : Line) (s : State) (e : Endpoint) → e.state ≡ s → has_sent s ≡ true → has_sent (timed us s c e).endpoint.state ≡ true
-timed_sent us c Off e is x = absurd (false≢true x)
-timed_sent us c (Armed age) e is x = absurd (false≢true x)
-timed_sent us c (Sending attempt waited) e is x =
-    let P : Turn → Type 0 = λ t. has_sent t.endpoint.state ≡ true in
-    either P (eqb e.retry 0) (stay c e) (cond (ltb (waited + 1) e.retry) (stay c (in_state (Sending attempt (waited + 1)) e)) (again us attempt c e)) (ap has_sent is)
-    (either P (ltb (waited + 1) e.retry) (stay c (in_state (Sending attempt (waited + 1)) e)) (again us attempt c e) refl
-    (either P (ltb attempt 8) (send us attempt c (in_state (Sending (attempt + 1) 0) e)) (fail [] c e) refl refl))
-timed_sent us c Failed e is x = ap has_sent is
+sent : Past (λ s. has_sent s ≡ true)
+sent = record { armed = λ age. false≢true; sending = λ attempt waited. refl; failed = refl }
 
 sent_stays : (p : Pair) (calls : List Call) → has_sent p.endpoint.state ≡ true → GoesOn p calls → has_sent (run p calls).endpoint.state ≡ true
 sent_stays p [] x on = x
-sent_stays p (c ∷ cs) x on = sent_stays (step p c).pair cs (go (goes p c on.0)) on.1
-  where
-    go : Goes p c → has_sent (step p c).pair.endpoint.state ≡ true
-    go (inl y) = ap has_sent y.1.state ∙ x
-    go (inr y) =
-        let us = ids p.board in
-        let e = p.endpoint in
-        subst (λ d. has_sent (step p d).pair.endpoint.state ≡ true) (sym y.1)
-        (either (λ t. has_sent t.endpoint.state ≡ true) (leb 4111 y.0) (timed us e.state p.line e) (turn e p.line (refusal TickBufferShort)) (timed_sent us p.line e.state e refl x) x)
+sent_stays p (c ∷ cs) x on = sent_stays (step p c).pair cs (step_past (λ s. has_sent s ≡ true) sent p c (goes p c on.0) x) on.1
 
 -- a tick of an Armed endpoint: it has sent, or is one older
 tick_armed : (us : List UniqueId) (room : ℕ) (c : Line) (e : Endpoint) (a : ℕ) → e.state ≡ Armed a → leb 4111 room ≡ true → let t = tick us room c e in
@@ -359,17 +370,21 @@ pub record Tocks (r n : ℕ) (us : List UniqueId) (e : Endpoint) (t : Turn) : Ty
   pub retry : t.endpoint.retry ≡ e.retry
   pub outcome : t.outcome ≡ said_at r (n + 1) us e
 
+-- one after the last attempt
+late_tock : (r n : ℕ) (us : List UniqueId) (e : Endpoint) (t : Turn) → 8 * r ≤ n + 1 → t.endpoint.state ≡ Failed → t.endpoint.prior ≡ e.prior → t.endpoint.generation ≡ e.generation →
+    t.endpoint.retry ≡ e.retry → t.outcome ≡ done [] → Tocks r n us e t
+late_tock r n us e t late failed prior generation retry quiet = record {
+  on = inr (late, failed);
+  prior = prior;
+  generation = generation;
+  retry = retry;
+  outcome = quiet ∙ silent r (n + 1) us e (and_right (eqb ((n + 1) % r) 0) (ltb (n + 1) (8 * r)) (le-ltb (n + 1) (8 * r) late));
+}
+
 tick-on : (us : List UniqueId) (room : ℕ) (c : Line) (e : Endpoint) (r n : ℕ) → leb 4111 room ≡ true → e.retry ≡ r → 0 < r → On r n e.state → Tocks r n us e (tick us room c e)
 tick-on us room c e r n fits same pos (inr x) =
     let late : 8 * r ≤ n + 1 = (let h = x.0 in omega arith) in
-    subst (Tocks r n us e) (sym (tick-at us room c e Failed fits x.1))
-    (record {
-      on = inr (late, x.1);
-      prior = refl;
-      generation = refl;
-      retry = refl;
-      outcome = silent r (n + 1) us e (and_right (eqb ((n + 1) % r) 0) (ltb (n + 1) (8 * r)) (le-ltb (n + 1) (8 * r) late));
-    })
+    subst (Tocks r n us e) (sym (tick-at us room c e Failed fits x.1)) (late_tock r n us e (stay c e) late x.1 refl refl refl refl)
 tick-on us room c e r n fits same pos (inl x) =
     subst (Tocks r n us e) (sym (tick-at us room c e (Sending (j + 1) w) fits x.5 ∙ ap (λ v. cond v (stay c e) rest) wakes ∙ ap (λ (k : ℕ). cond (ltb (w + 1) k) waits (again us (j + 1) c e)) same))
     (go (cases_lt (w + 1) r))
@@ -414,13 +429,7 @@ tick-on us room c e r n fits same pos (inl x) =
         let all : n + 1 ≡ 8 * r = (let k = ends h in let s : (j + 1) * r ≡ 8 * r = ap (λ (m : ℕ). (m + 1) * r) seven in omega arith) in
         let late : 8 * r ≤ n + 1 = omega arith in
         subst (Tocks r n us e) (sym (ap (λ v. cond v (send us (j + 1) c (in_state (Sending (j + 1 + 1) 0) e)) (fail [] c e)) (le-ltb (j + 1) 8 many)))
-        (record {
-          on = inr (late, refl);
-          prior = refl;
-          generation = refl;
-          retry = refl;
-          outcome = silent r (n + 1) us e (and_right (eqb ((n + 1) % r) 0) (ltb (n + 1) (8 * r)) (le-ltb (n + 1) (8 * r) late));
-        })
+        (late_tock r n us e (fail [] c e) late refl refl refl refl refl)
 
     go : (w + 1 < r) ⊎ (r ≤ w + 1) → Tocks r n us e (cond (ltb (w + 1) r) waits (again us (j + 1) c e))
     go (inl h) =

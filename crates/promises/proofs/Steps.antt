@@ -58,9 +58,9 @@ use Rattle.promises.proofs.Boards.{set_taken, set_unlawful, set_past}
 use Rattle.promises.proofs.Lists.{never, At, merge_source, merge-held, merge-at}
 use Rattle.promises.proofs.Words.{none_in}
 use Rattle.promises.proofs.Invariant.{LawfulReadings, Laws, Now, Shows, OwnOne, Own, NotArmed, Knows, Sound, Learned, Awaiting, Inv}
-use Rattle.promises.proofs.EndpointKeeps.{Kept, shows_more, stays, tick_keeps, reset_keeps}
+use Rattle.promises.proofs.EndpointKeeps.{Kept, nothing-marked, shows_more, stays, tick_keeps, reset_keeps}
 use Rattle.promises.proofs.ChangeKeeps.{change_keeps}
-use Rattle.promises.proofs.Requests.{accepts, nothing-marked}
+use Rattle.promises.proofs.Requests.{accepts}
 
 -- THE ENDPOINT ACTS
 

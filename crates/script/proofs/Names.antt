@@ -32,6 +32,10 @@ pub bytes_eq-other : (s p : Bytes) → (s ≡ p → ⊥) → bytes_eq s p ≡ fa
 bytes_eq-other s p other =
     ⊎_elim (λ same. absurd (other ((bytes_eq-Decides s p).0 same))) (λ e. e) (cases_Bool (bytes_eq s p))
 
+-- a name that is not read is another
+pub unread : (s p : Bytes) → ((length s ≡ length p) × HasBytesAt s 0 p → ⊥) → bytes_eq s p ≡ false
+unread s p other = bytes_eq-other s p (λ e. other (reads s p e))
+
 -- what stands for a word where there is none
 abbrev pub no_word : Bor Bytes
 no_word = record { ref_ptr = (0, 0); now = [] }
@@ -106,8 +110,7 @@ row-fault (a ∷ b ∷ x ∷ y ∷ []) d fault h e = ap (λ r. r >>= (λ id. byt
 row-fault (a ∷ b ∷ x ∷ y ∷ z ∷ ws) d fault h e = absurd (omega arith)
 
 -- the words of a call
-pub command-call : (words : List (Bor Bytes)) → ((get_or words 0 no_word).now ≡ codes "board" → ⊥) → ((get_or words 0 no_word).now ≡ codes "row" → ⊥) → ((get_or words 0 no_word).now ≡ codes "carrier" → ⊥)
-    → command_of (texts words) ≡ call_of (texts words)
+pub command-call : (words : List (Bor Bytes)) → let name = (get_or words 0 no_word).now in
+    bytes_eq name (codes "board") ≡ false → bytes_eq name (codes "row") ≡ false → bytes_eq name (codes "carrier") ≡ false → command_of (texts words) ≡ call_of (texts words)
 command-call [] board row carrier = refl
-command-call (w ∷ ws) board row carrier =
-    rw (bytes_eq-other w.now (codes "board") board, bytes_eq-other w.now (codes "row") row, bytes_eq-other w.now (codes "carrier") carrier)
+command-call (w ∷ ws) board row carrier = rw (board, row, carrier)

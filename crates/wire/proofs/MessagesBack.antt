@@ -33,7 +33,7 @@ some_list transmission overflow = omega arith
 -- what passed a test
 passed : {A : Type 0} (v : Bool) (x : Option A) (a : A) → cond v x None ≡ Some a → (v ≡ true) × (x ≡ Some a)
 passed true x a e = (refl, e)
-passed false x a e = let z : ◌≡◌ {A = ℕ} 0 1 = cc in absurd (omega arith)
+passed false x a e = absurd (cc)
 
 -- what is read in a frame is framed so
 framed_only : (head bytes : Bytes) (l : Listing) → read_framed head bytes ≡ Some l →
@@ -53,7 +53,7 @@ unfolding read_event event_message
 only-event bytes v e = go (read_framed event_head bytes) refl e
   where
     go : (o : Option Listing) → read_framed event_head bytes ≡ o → event_of o ≡ Some v → EncodesEvent bytes v
-    go None f e = let z : ◌≡◌ {A = ℕ} 0 1 = cc in absurd (omega arith)
+    go None f e = absurd (cc)
     go (Some l) f e =
         let only = framed_only event_head bytes l f in
         let is : ◌≡◌ {A = Event} (record { generation = l.transmission / 8; retries = l.transmission % 8; told = l.told }) v = cc in
@@ -79,7 +79,7 @@ only-answer bytes a e = go (read_framed (answer_head (slot_of bytes)) bytes) ref
   where
     zero_info : (l : Listing) (t : Bool) → eqb l.transmission 0 ≡ t → read_framed (answer_head (slot_of bytes)) bytes ≡ Some l →
         cond t (Some (record { slot = slot_of bytes; told = l.told })) None ≡ Some a → EncodesAnswer bytes a
-    zero_info l false z f e = let z : ◌≡◌ {A = ℕ} 0 1 = cc in absurd (omega arith)
+    zero_info l false z f e = absurd (cc)
     zero_info l true z f e =
         let only = framed_only (answer_head (slot_of bytes)) bytes l f in
         let is : ◌≡◌ {A = Answer} (record { slot = slot_of bytes; told = l.told }) a = cc in
@@ -88,7 +88,7 @@ only-answer bytes a e = go (read_framed (answer_head (slot_of bytes)) bytes) ref
         (record { is = only.0 ∙ ap (λ (k : ℕ). checked (answer_head (slot_of bytes) ++ list_bytes k l.told)) none; lawful = only.1 })
 
     go : (o : Option Listing) → read_framed (answer_head (slot_of bytes)) bytes ≡ o → answer_of (slot_of bytes) o ≡ Some a → EncodesAnswer bytes a
-    go None f e = let z : ◌≡◌ {A = ℕ} 0 1 = cc in absurd (omega arith)
+    go None f e = absurd (cc)
     go (Some l) f e = zero_info l (eqb l.transmission 0) refl f e
 
 -- HOW THE CODE READS A FRAME

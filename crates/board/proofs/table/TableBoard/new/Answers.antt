@@ -1,4 +1,4 @@
-use Rattle.std.proofs.Common.{◌≡◌, ℕ, ◌<◌, ◌≤◌, Bool, true, false, eqb, List, map, length, Ok, Err, Result, MatchResult, sym, ap, ◌∙◌, arith, rules}
+use Rattle.std.proofs.Common.{◌≡◌, ◌<◌, ◌≤◌, Bool, true, false, eqb, List, map, length, Ok, Err, Result, MatchResult, sym, ap, ◌∙◌, arith, rules}
 use Rattle.std.proofs.lemmas.Bool.{eqb-true}
 use Rattle.std.proofs.lemmas.Bool.Decides.{nat_tests}
 use Rattle.std.proofs.lemmas.List.{length-map}
@@ -17,6 +17,7 @@ use Rattle.board.specs.Boards.{lawful_board}
 use Rattle.board.specs.Tables.{rows_told}
 use Rattle.board.proofs.Tables.{ids_rows, refuse_count, refuse_unlawful, refuse_twice, refuse_none, rows-lawful}
 use Rattle.board.proofs.table.TableBoard.new.Goals as goal
+use Rattle.board.proofs.table.TableBoard.new.Goals.{After-has_twice}
 
 -- a copy that was made has the rows, and there are 1 to 64 of them
 copied : {E : Type 0} {copy : ArrayVec Row} (rows : List Row) (t : Result (ArrayVec Row) E) → eqb (length rows) 0 ≡ false → MatchResult t (λ v. (v.items ≡ rows) × (length rows ≤ 64)) (λ _. 64 < length rows) → MatchResult t (λ v. ◌≡◌ {A = Result (ArrayVec Row) Refusal} (Ok copy) (Ok v)) (λ _. ⊥) → (copy.items ≡ rows) × (within 1 64 (length (rows_told rows)) ≡ true)
@@ -28,7 +29,7 @@ copied rows (Err e) some made same = absurd same
 
 -- one that was not made is refused, and there are more rows
 not_copied : {E : Type 0} {r : Refusal} (P : E → Type 0) (rows : List Row) (t : Result (ArrayVec Row) E) → MatchResult t (λ v. (v.items ≡ rows) × (length rows ≤ 64)) (λ _. 64 < length rows) → MatchResult t (λ v. ◌≡◌ {A = Result (ArrayVec Row) Refusal} (Err r) (Ok v)) P → ((e : E) → P e → r ≡ RowCount) → (r ≡ RowCount) × (within 1 64 (length (rows_told rows)) ≡ false)
-not_copied P rows (Ok v) made same says = let z : ◌≡◌ {A = ℕ} 0 1 = cc in absurd (omega arith)
+not_copied P rows (Ok v) made same says = absurd (cc)
 not_copied P rows (Err e) made same says =
     (says e same, ap (within 1 64) (length-map rows occurrence_of) ∙ grind (arith, nat_tests))
 
@@ -60,26 +61,34 @@ returns-then-not-all_lawful c =
     let copy = copied rows c.try_from.result (sym c.is_empty.ensures ∙ c.if-is_empty.false) c.try_from.ensures c.in_ok-rows.ensures.cases in
     refuse_unlawful (rows_told rows) copy.1 (answered (c.deref.ensures.0 ∙ copy.0) c.if-not-all_lawful.ensures)
 
+-- what is known of the rows once their copy was searched
+record Searched (rows copy : List Row) (repeated : Bool) : Type 0 where
+  same : copy ≡ rows
+  few : within 1 64 (length (rows_told rows)) ≡ true
+  all : all_lawful (rows_told rows) ≡ true
+  once : twice same_id (ids (rows_told rows)) ≡ repeated
+
+known : (c : After-has_twice) → Searched c.args.rows.now c.in_ok-rows.rows.items c.has_twice.result
+known c =
+    let copy = copied c.args.rows.now c.try_from.result (sym c.is_empty.ensures ∙ c.if-is_empty.false) c.try_from.ensures c.in_ok-rows.ensures.cases in
+    record {
+      same = copy.0;
+      few = copy.1;
+      all = answered (c.deref.ensures.0 ∙ copy.0) c.if-not-all_lawful.ensures;
+      once = searched (c.deref-2.ensures.0 ∙ c.ids.ensures) copy.0 (c.has_twice.ensures same_id same_id_test);
+    }
+
 pub returns : goal.returns
 returns c =
-    let rows = c.args.rows.now in
-    let copy = copied rows c.try_from.result (sym c.is_empty.ensures ∙ c.if-is_empty.false) c.try_from.ensures c.in_ok-rows.ensures.cases in
-    let all = answered (c.deref.ensures.0 ∙ copy.0) c.if-not-all_lawful.ensures in
-    let once = searched (c.deref-2.ensures.0 ∙ c.ids.ensures) copy.0 (c.if-has_twice.ensures same_id same_id_test) in
-    ap (λ (l : List Row). Ok (rows_told l)) copy.0 ∙ refuse_none (rows_told rows) copy.1 all once
+    let k = known (goal.at.returns c).After-has_twice in
+    ap (λ (l : List Row). Ok (rows_told l)) k.same ∙ refuse_none (rows_told c.args.rows.now) k.few k.all (k.once ∙ c.if-has_twice.false)
 
 pub invariant_of-result : goal.invariant_of-result
 invariant_of-result c =
-    let rows = c.args.rows.now in
-    let copy = copied rows c.try_from.result (sym c.is_empty.ensures ∙ c.if-is_empty.false) c.try_from.ensures c.in_ok-rows.ensures.cases in
-    let all = answered (c.deref.ensures.0 ∙ copy.0) c.if-not-all_lawful.ensures in
-    let once = searched (c.deref-2.ensures.0 ∙ c.ids.ensures) copy.0 (c.if-has_twice.ensures same_id same_id_test) in
-    record { lawful = ap (λ (l : List Row). lawful_board (rows_told l)) copy.0 ∙ rows-lawful (rows_told rows) copy.1 all once }
+    let k = known (goal.at.invariant_of-result c).After-has_twice in
+    record { lawful = ap (λ (l : List Row). lawful_board (rows_told l)) k.same ∙ rows-lawful (rows_told c.args.rows.now) k.few k.all (k.once ∙ c.if-has_twice.false) }
 
 pub returns-then-has_twice : goal.returns-then-has_twice
 returns-then-has_twice c =
-    let rows = c.args.rows.now in
-    let copy = copied rows c.try_from.result (sym c.is_empty.ensures ∙ c.if-is_empty.false) c.try_from.ensures c.in_ok-rows.ensures.cases in
-    let all = answered (c.deref.ensures.0 ∙ copy.0) c.if-not-all_lawful.ensures in
-    let again = searched (c.deref-2.ensures.0 ∙ c.ids.ensures) copy.0 (c.if-has_twice.ensures same_id same_id_test) in
-    refuse_twice (rows_told rows) copy.1 all again
+    let k = known (goal.at.returns-then-has_twice c).After-has_twice in
+    refuse_twice (rows_told c.args.rows.now) k.few k.all (k.once ∙ c.if-has_twice.true)

@@ -1,4 +1,4 @@
-use Rattle.std.proofs.Common.{◌≡◌, Bool, cond, leb, length, sym, ap, ◌∙◌}
+use Rattle.std.proofs.Common.{true, false, leb, length, sym, refl, ap, ◌∙◌}
 use Rattle.std.proofs.lemmas.Option.{cond_some}
 use Rattle.std.proofs.lemmas.Result.{err_from_is_err_and}
 use Rattle.event.specs.Bytes.{Bytes}
@@ -34,20 +34,12 @@ mark-requires g c =
 
 pub returns-then-has : goal.returns-then-has
 returns-then-has g c =
-    let told = g.B.Board.told c.args.board.now in
     let e = as_endpoint c.args.self.now in
-    let place = c.args.place in
     let r = c.args.reading.now in
     let kept = cond_some (leb (length r) 64) r (held c.in_ok-kept.kept) (sym (found _ _ _ (ap held_if c.in_ok-kept.ensures.ok_part) c.new.ensures)) in
-    let marks : as_endpoint c.mark.new.self ≡ mark e.state place r e = c.mark.ensures ∙ ap (λ (k : Bytes). mark e.state place k e) (sym kept.1) in
-    taken told place r c.in_ok-id.id e (found _ _ _ c.in_ok-id.ensures.ok_part c.id.ensures) (as_endpoint c.mark.new.self) (g.B.Board.told c.try_set.new.board) c.in_ok-try_set.ensures.result
-    (marks ∙ ap (λ (b : Bool). cond b (mark e.state place r e) e) c.if-has.ensures) c.in_ok-try_set.ensures.after
+    taken _ _ _ c.in_ok-id.id e (found _ _ _ c.in_ok-id.ensures.ok_part c.id.ensures) true (as_endpoint c.mark.new.self) _ c.in_ok-try_set.ensures.result c.if-has.ensures
+    (c.mark.ensures ∙ ap (λ (k : Bytes). mark e.state c.args.place k e) (sym kept.1)) c.in_ok-try_set.ensures.after
 
 pub returns-else-has : goal.returns-else-has
 returns-else-has g c =
-    let told = g.B.Board.told c.args.board.now in
-    let e = as_endpoint c.args.self.now in
-    let place = c.args.place in
-    let r = c.args.reading.now in
-    taken told place r c.in_ok-id.id e (found _ _ _ c.in_ok-id.ensures.ok_part c.id.ensures) e (g.B.Board.told c.try_set.new.board) c.in_ok-try_set.ensures.result
-    (ap (λ (b : Bool). cond b (mark e.state place r e) e) c.if-has.ensures) c.in_ok-try_set.ensures.after
+    taken _ _ _ c.in_ok-id.id _ (found _ _ _ c.in_ok-id.ensures.ok_part c.id.ensures) false (as_endpoint c.args.self.now) _ c.in_ok-try_set.ensures.result c.if-has.ensures refl c.in_ok-try_set.ensures.after

@@ -1,7 +1,8 @@
 use Rattle.std.proofs.Common.{◌≡◌, ◌-◌, leb, ◌∷◌, length, sym, ◌∙◌, rules}
+use Rattle.std.proofs.lemmas.Option.{cond_some}
 use Rattle.event.specs.Sources.{occurrence}
 use Rattle.list.specs.Lists.{fronts}
-use Rattle.list.proofs.Passed.{passed, not_passed}
+use Rattle.list.proofs.Passed.{not_passed}
 use Rattle.list.proofs.Steps.{fronts-none, fronts_end, fronts_more, no_front, front_by_length}
 use Rattle.list.proofs.next.OccurrencesIterator.next.Goals as goal
 
@@ -30,7 +31,7 @@ returns-clause-steps c =
     let n = c.args.self.now.number in
     let f = c.in_ok-found.found in
     let begins = c.in_ok-found.ensures in
-    let taken = passed (leb (length f.reading.now) 64) f.reading.now _ (sym c.in_ok-reading.ensures) in
+    let taken = cond_some (leb (length f.reading.now) 64) f.reading.now _ (sym c.in_ok-reading.ensures) in
     let less : n - 1 ≡ c.in_ok-number.number = search rules in
     let id = sym begins.id in
     let reading = sym begins.reading ∙ taken.1 in

@@ -1,4 +1,4 @@
-use Rattle.std.proofs.Common.{◌<◌, ◌≤◌, length, sym, ap, ◌∙◌, arith, zero-add}
+use Rattle.std.proofs.Common.{◌≡◌, ◌<◌, ◌≤◌, [], length, get_or, sym, ap, ◌∙◌, arith, zero-add}
 use lib.ListN.{length-map}
 use Rattle.std.proofs.lemmas.Grind.{common_steps}
 use Rattle.event.specs.Bytes.{placed}
@@ -8,6 +8,13 @@ use Rattle.smbus.specs.Stored.{held, stored}
 use Rattle.smbus.specs.Seen.{line_of}
 use Rattle.smbus.specs.Lying.{shown, shown_at, copied_stored, chosen_none, chosen_long, chosen_fits}
 use Rattle.smbus.proofs.bus.SmbusCarrier.copy_packet.Goals as goal
+use Rattle.smbus.proofs.bus.SmbusCarrier.copy_packet.Goals.{After-as_bytes-bytes}
+
+-- the packet of the number is the one whose bytes are read
+read : (c : After-as_bytes-bytes) → get_or (packets_on c.args.self.now.addresses (line_of c.args.self.now)) c.args.number [] ≡ c.as_bytes-bytes.result.now
+read c =
+    shown_at c.args.self.now c.deref.result.now c.args.number c.in_ok-get.field-0.now c.deref.ensures.0 c.in_ok-get.ensures.lookup.3.0 c.in_ok-get.ensures.lookup.1
+    ∙ sym c.as_bytes-bytes.ensures
 
 pub returns-in_err-get-clause-buffer : goal.returns-in_err-get-clause-buffer
 returns-in_err-get-clause-buffer c =
@@ -23,7 +30,7 @@ returns-then-buffer-len-clause-buffer c =
     let s = c.args.self.now in
     let buffer = c.args.buffer.now in
     let ps = packets_on s.addresses (line_of s) in
-    let at = shown_at s c.deref.result.now c.args.number c.in_ok-get.field-0.now c.deref.ensures.0 c.in_ok-get.ensures.lookup.3.0 c.in_ok-get.ensures.lookup.1 ∙ sym c.as_bytes-bytes.ensures in
+    let at = read (goal.at.returns-then-buffer-len-clause-buffer c).After-as_bytes-bytes in
     sym (ap (placed buffer 0) (chosen_long ps c.args.number (length buffer) c.as_bytes-bytes.result.now at (omega arith)) ∙ placed-none buffer 0)
 
 pub returns-clause-count : goal.returns-clause-count
@@ -31,7 +38,7 @@ returns-clause-count c =
     let s = c.args.self.now in
     let buffer = c.args.buffer.now in
     let ps = packets_on s.addresses (line_of s) in
-    let at = shown_at s c.deref.result.now c.args.number c.in_ok-get.field-0.now c.deref.ensures.0 c.in_ok-get.ensures.lookup.3.0 c.in_ok-get.ensures.lookup.1 ∙ sym c.as_bytes-bytes.ensures in
+    let at = read (goal.at.returns-clause-count c).After-as_bytes-bytes in
     let here : c.args.number < length (stored s.packets) = omega (arith, length-map s.packets.items held, ap length c.deref.ensures.0, c.in_ok-get.ensures.lookup.3.0) in
     sym (ap copied_length (chosen_fits ps c.args.number (length buffer) c.as_bytes-bytes.result.now at (omega arith)) ∙ copied_stored s c.args.number c.as_bytes-bytes.result.now here at)
 
@@ -41,5 +48,5 @@ returns-clause-buffer c =
     let s = c.args.self.now in
     let buffer = c.args.buffer.now in
     let ps = packets_on s.addresses (line_of s) in
-    let at = shown_at s c.deref.result.now c.args.number c.in_ok-get.field-0.now c.deref.ensures.0 c.in_ok-get.ensures.lookup.3.0 c.in_ok-get.ensures.lookup.1 ∙ sym c.as_bytes-bytes.ensures in
+    let at = read (goal.at.returns-clause-buffer c).After-as_bytes-bytes in
     rw (chosen_fits ps c.args.number (length buffer) c.as_bytes-bytes.result.now at (omega arith)) (grind (arith, common_steps, zero-add))
