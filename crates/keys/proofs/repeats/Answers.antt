@@ -6,7 +6,7 @@ use Rattle.std.proofs.lemmas.Iterator.Consumers.{YieldsList-from_enumerate}
 use Rattle.std.proofs.lemmas.Iterator.Search.{any_from_yields_List}
 use Rattle.keys.specs.Keys.{among}
 use Rattle.keys.proofs.Rows.{among_later, twice_later}
-use Rattle.keys.proofs.has_twice.Goals as goal
+use Rattle.keys.proofs.repeats.Goals as goal
 
 pub returns : goal.returns
 returns g c = λ same test.

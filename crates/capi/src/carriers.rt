@@ -1,0 +1,123 @@
+//! The carriers.
+ghost use Rattle.std.specs.Prelude.{◌≡◌, length};
+ghost use Rattle.event.specs.Bytes.{placed};
+ghost use Rattle.carrier.specs.Carriers.{new_line, after_put, fetched, fetched_into};
+ghost use Rattle.smbus.specs.Seen.{addressed, seen_if};
+ghost use Rattle.capi.specs.Outcomes.{refusal_number, count_of};
+ghost use Rattle.capi.specs.Packing.{sent, counted, copied_count, copied_into, delivered, delivered_into};
+
+use crate::outcome::hand_out;
+use carrier::mailbox::Mailbox;
+use carrier::{Carrier, deliver};
+use event::refusal::Refusal;
+use smbus::SmbusCarrier;
+
+/// How many packets a message takes between two SMBus addresses: none, if it has no byte or more than 4,224.
+#[unsafe(no_mangle)]
+pub extern "C" fn fenduxi_packet_count(
+    destination_address: u8,
+    source_address: u8,
+    source_id: u8,
+    destination_id: u8,
+    message: &[u8],
+    count: &mut usize,
+) -> u8
+    ensures number { result ≡ refusal_number (counted (addressed destination_address source_address source_id) destination_id message.now) }
+    ensures count { count.new ≡ count_of (counted (addressed destination_address source_address source_id) destination_id message.now) }
+{
+    let carrier = laden(
+        destination_address,
+        source_address,
+        source_id,
+        destination_id,
+        message,
+    );
+    hand_out(carrier.map(|carrier| carrier.packet_count()), count)
+}
+
+/// Copies the packet of a number, from 0 on, to the front of the buffer. If there is none, or it is longer than the buffer, nothing
+/// is copied, and the count is 0.
+#[unsafe(no_mangle)]
+pub extern "C" fn fenduxi_packet(
+    destination_address: u8,
+    source_address: u8,
+    source_id: u8,
+    destination_id: u8,
+    message: &[u8],
+    number: usize,
+    buffer: &mut [u8],
+    count: &mut usize,
+) -> u8
+    ensures number { result ≡ refusal_number (copied_count (addressed destination_address source_address source_id) destination_id message.now number (length buffer.old)) }
+    ensures count { count.new ≡ count_of (copied_count (addressed destination_address source_address source_id) destination_id message.now number (length buffer.old)) }
+    ensures buffer { buffer.new ≡ copied_into (addressed destination_address source_address source_id) destination_id message.now number buffer.old }
+{
+    match laden(
+        destination_address,
+        source_address,
+        source_id,
+        destination_id,
+        message,
+    ) {
+        Ok(carrier) => hand_out(Ok(carrier.copy_packet(number, buffer).unwrap_or(0)), count),
+        Err(refusal) => hand_out(Err(refusal), count),
+    }
+}
+
+/// Puts a message on a new SMBus carrier, and fetches what lies there then.
+#[unsafe(no_mangle)]
+pub extern "C" fn fenduxi_smbus_deliver(
+    destination_address: u8,
+    source_address: u8,
+    source_id: u8,
+    destination_id: u8,
+    message: &[u8],
+    buffer: &mut [u8],
+    count: &mut usize,
+) -> u8
+    ensures number { result ≡ refusal_number (delivered (addressed destination_address source_address source_id) destination_id message.now (length buffer.old)) }
+    ensures count { count.new ≡ count_of (delivered (addressed destination_address source_address source_id) destination_id message.now (length buffer.old)) }
+    ensures buffer { buffer.new ≡ delivered_into (addressed destination_address source_address source_id) destination_id message.now buffer.old }
+{
+    match SmbusCarrier::new(destination_address, source_address, source_id) {
+        Ok(mut carrier) => hand_out(
+            deliver(&mut carrier, destination_id, message, buffer),
+            count,
+        ),
+        Err(refusal) => hand_out(Err(refusal), count),
+    }
+}
+
+/// Puts a message into a new mailbox, and fetches what lies there then.
+#[unsafe(no_mangle)]
+pub extern "C" fn fenduxi_mailbox_deliver(
+    destination_id: u8,
+    message: &[u8],
+    buffer: &mut [u8],
+    count: &mut usize,
+) -> u8
+    ensures number { result ≡ refusal_number (fetched (after_put new_line destination_id message.now) (length buffer.old)) }
+    ensures count { count.new ≡ count_of (fetched (after_put new_line destination_id message.now) (length buffer.old)) }
+    ensures buffer { buffer.new ≡ fetched_into (after_put new_line destination_id message.now) buffer.old }
+{
+    let mut mailbox = Mailbox::new();
+    hand_out(
+        deliver(&mut mailbox, destination_id, message, buffer),
+        count,
+    )
+}
+
+// A new SMBus carrier on which a message was put.
+fn laden(
+    destination_address: u8,
+    source_address: u8,
+    source_id: u8,
+    destination_id: u8,
+    message: &[u8],
+) -> Result<SmbusCarrier, Refusal>
+    ensures { seen_if result ≡ sent (addressed destination_address source_address source_id) destination_id message.now }
+{
+    let mut carrier = SmbusCarrier::new(destination_address, source_address, source_id)?;
+    let _taken = carrier.put(destination_id, message);
+    Ok(carrier)
+}
