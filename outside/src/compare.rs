@@ -315,12 +315,7 @@ fn head(kind: u8, slot: bool) -> Head {
     Head {
         kind,
         slot,
-        first: 0,
-        retry: 0,
-        generation: 0,
-        retries: 0,
-        overflow: false,
-        number: 0,
+        ..Head::default()
     }
 }
 

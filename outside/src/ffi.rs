@@ -26,7 +26,7 @@ pub struct Switch {
 
 /// What a message says beside its items and occurrences.
 #[repr(C)]
-#[derive(Clone, Copy, Debug, PartialEq, Eq)]
+#[derive(Clone, Copy, Debug, Default, PartialEq, Eq)]
 pub struct Head {
     pub kind: u8,
     pub slot: bool,

@@ -158,14 +158,14 @@ fn reading(length: usize, message: &[u8]) {
     let (mut ours, mut theirs) = ([BLANK_ROW; 64], [BLANK_ROW; 64]);
     let all = times([
         &mut each(|| {
-            let mut head = blank_head();
+            let mut head = Head::default();
             let message = black_box(message);
             let refusal = ffi::read(Reader::Event, message, &mut head, &mut switches, &mut ours);
             assert_eq!(black_box(refusal), 0);
         }),
         &mut each(|| {
             let view = hand::read_event(black_box(message));
-            let head = view.map_or_else(|_| blank_head(), |view| show(&view, &mut theirs));
+            let head = view.map_or_else(|_| Head::default(), |view| show(&view, &mut theirs));
             black_box((head, &mut theirs));
         }),
     ]);
@@ -372,7 +372,7 @@ fn show(view: &ListView, rows: &mut [Row]) -> Head {
         generation: view.transmission >> 3,
         retries: view.transmission & 7,
         overflow: view.overflow,
-        ..blank_head()
+        ..Head::default()
     };
     if view.overflow {
         return head;
@@ -398,16 +398,3 @@ const BLANK_ROW: Row = Row {
     info: 0,
     bytes: [0; 64],
 };
-
-fn blank_head() -> Head {
-    Head {
-        kind: 0,
-        slot: false,
-        first: 0,
-        retry: 0,
-        generation: 0,
-        retries: 0,
-        overflow: false,
-        number: 0,
-    }
-}
