@@ -99,13 +99,11 @@ pub extern "C" fn fenduxi_read_list(bytes: &[u8], head: &mut Head, rows: &mut [R
     let (overflow, number) = show_list(read.list, rows);
     *head = Head {
         kind: 5,
-        slot: false,
-        first: 0,
-        retry: 0,
         generation: read.transmission / 8,
         retries: read.transmission % 8,
         overflow,
         number,
+        ..Head::default()
     };
     true
 }
@@ -134,10 +132,8 @@ fn show(
                 slot,
                 first: delays.first.0,
                 retry: delays.retry.0,
-                generation: 0,
-                retries: 0,
-                overflow: false,
                 number,
+                ..Head::default()
             };
             0
         }
@@ -145,12 +141,7 @@ fn show(
             *head = Head {
                 kind: 2,
                 slot,
-                first: 0,
-                retry: 0,
-                generation: 0,
-                retries: 0,
-                overflow: false,
-                number: 0,
+                ..Head::default()
             };
             0
         }
@@ -164,13 +155,11 @@ fn show(
             let (overflow, number) = show_list(list, rows);
             *head = Head {
                 kind: 3,
-                slot: false,
-                first: 0,
-                retry: 0,
                 generation,
                 retries,
                 overflow,
                 number,
+                ..Head::default()
             };
             0
         }
@@ -179,12 +168,9 @@ fn show(
             *head = Head {
                 kind: 4,
                 slot,
-                first: 0,
-                retry: 0,
-                generation: 0,
-                retries: 0,
                 overflow,
                 number,
+                ..Head::default()
             };
             0
         }

@@ -31,7 +31,7 @@ pub struct Switch {
 /// What a message says beside its items and occurrences. `kind` is 1 for a sync, 2 for an ack, 3 for an event message, 4 for an
 /// answer and 5 for a list alone; `number` counts the items or occurrences.
 #[repr(C)]
-#[derive(Clone, Copy)]
+#[derive(Clone, Copy, Default)]
 pub struct Head {
     pub kind: u8,
     pub slot: bool,
