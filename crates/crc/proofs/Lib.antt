@@ -1,2 +1,2 @@
 mod Steps
-mod Eights
+mod Parts

@@ -1,7 +1,9 @@
 -- The laws of the register of CRC-32C: its steps are linear over exclusive or, so bytes can be taken apart. Assumes nothing.
-use Rattle.std.proofs.Common.{◌≡◌, ℕ, zero, suc, ◌+◌, ◌*◌, ◌/◌, ◌%◌, ◌^◌, ◌<◌, [], ◌∷◌, fold, sym, refl, ap, ◌∙◌, mod-eq_of_lt, suc-add, mul-zero, zero-add, mul-one, arith, lit<}
+use Rattle.std.proofs.Common.{◌≡◌, ℕ, zero, suc, ◌+◌, ◌*◌, ◌/◌, ◌%◌, ◌^◌, ◌<◌, fold, sym, refl, ap, ◌∙◌, suc-add, add-zero, add-suc, mul-zero, mul-suc, add_comm, zero-add, mul-one, pow-suc, div-one, arith, lit<}
 use lib.Bits.{bit_xor, xor_assoc, xor_comm, xor_zero_r, xor_self, xor_shr, xor_mod, xor_shifted, shifted_half, shifted_even}
-use Rattle.std.proofs.lemmas.Nat.{mod_below, shr_split, pow_pos, div_below, shr-shr}
+use Rattle.std.specs.Int.{byte_at, bytes_low_first}
+use Rattle.std.proofs.Math.Nat.{div-div-eq-div-mul}
+use Rattle.std.proofs.lemmas.Nat.{mod_below, shr_split, pow_pos}
 use Rattle.crc.specs.Crc.{repeated, bit_step, byte_step}
 
 -- the register after n bit steps
@@ -61,45 +63,70 @@ low_byte n c =
     ∙ ap (λ (x : ℕ). bit_xor (after n (c / 256)) x) (after_add 8 n (c % 256))
     ∙ xor_comm (after n (c / 256)) (after (8 + n) (c % 256))
 
--- the four bytes of a register
-four_bytes : (c : ℕ) → c < 2 ^ 32 →
-    after 64 c ≡ bit_xor (bit_xor (bit_xor (after 64 (c % 256)) (after 56 (c / 256 % 256))) (after 48 (c / 65536 % 256))) (after 40 (c / 16777216 % 256))
-four_bytes c h =
-    let top : c / 16777216 < 256 = div_below c 16777216 256 (lit< tt) h in
-    let t : c / 16777216 % 256 ≡ c / 16777216 = mod-eq_of_lt top in
-    let d2 : c / 256 / 256 ≡ c / 65536 = shr-shr c 8 8 in
-    let d3 : c / 65536 / 256 ≡ c / 16777216 = shr-shr c 16 8 in
-    let e0 = low_byte 56 c in
-    let e1 = low_byte 48 (c / 256) in
-    let e2 = low_byte 40 (c / 65536) in
-    let a = xor_assoc (after 64 (c % 256)) (after 56 (c / 256 % 256)) (after 48 (c / 65536)) in
-    let b = xor_assoc (bit_xor (after 64 (c % 256)) (after 56 (c / 256 % 256))) (after 48 (c / 65536 % 256)) (after 40 (c / 16777216)) in
+-- byte i of a number, and what stands above it
+above : (i w : ℕ) → (w / 256 ^ i % 256 ≡ byte_at i w) × (w / 256 ^ i / 256 ≡ w / 256 ^ suc i)
+above zero w = let whole = div-one w in (cc, cc)
+above (suc i) w = (refl, div-div-eq-div-mul w (256 ^ suc i) 256 ∙ ap (λ (d : ℕ). w / d) (sym (pow-suc 256 (suc i))))
+
+-- a byte into the register, where the sum has more bytes above it
+byte_below : (c w : ℕ) → after 8 (bit_xor c w) ≡ bit_xor (byte_step c (w % 256)) (w / 256)
+unfolding byte_step
+byte_below c w =
+    let low = w % 256 in
+    let high = w / 256 * 256 in
+    let parts = xor_shifted (w / 256) 8 low (mod_below w 256 (lit< tt)) ∙ shr_split w 8 in
+    let turned = xor_comm high low in
+    let joined = xor_assoc c low high in
+    let apart = after_xor 8 (bit_xor c low) high in
+    let down = after_shifted 8 (w / 256) in
     cc
 
-pair_up : (a0 a1 a2 a3 b0 b1 b2 b3 : ℕ) →
-    bit_xor (bit_xor (bit_xor (bit_xor a0 b0) (bit_xor a1 b1)) (bit_xor a2 b2)) (bit_xor a3 b3)
-    ≡ bit_xor (bit_xor (bit_xor (bit_xor a0 a1) a2) a3) (bit_xor (bit_xor (bit_xor b0 b1) b2) b3)
-pair_up a0 a1 a2 a3 b0 b1 b2 b3 =
-    ap (λ (x : ℕ). bit_xor (bit_xor x (bit_xor a2 b2)) (bit_xor a3 b3)) (swap_inner a0 b0 a1 b1)
-    ∙ ap (λ (x : ℕ). bit_xor x (bit_xor a3 b3)) (swap_inner (bit_xor a0 a1) (bit_xor b0 b1) a2 b2)
-    ∙ swap_inner (bit_xor (bit_xor a0 a1) a2) (bit_xor (bit_xor b0 b1) b2) a3 b3
+-- k bytes of a number, from byte i on, where it has none above them
+pub bytes_in : (k i c w : ℕ) → w / 256 ^ (i + k) ≡ 0 → fold byte_step c (bytes_low_first i k w) ≡ repeated bit_step (8 * k) (bit_xor c (w / 256 ^ i))
+unfolding repeated
+bytes_in zero i c w e =
+    let none = ap (λ (k : ℕ). w / 256 ^ k) (sym (add-zero i)) ∙ e in
+    let same = xor_zero_r c in
+    let no_step = mul-zero 8 in
+    cc
+bytes_in (suc k) i c w e =
+    let (here, up) = above i w in
+    let next = bytes_in k (suc i) (byte_step c (byte_at i w)) w (ap (λ (n : ℕ). w / 256 ^ n) (suc-add i k ∙ sym (add-suc i k)) ∙ e) in
+    let below = byte_below c (w / 256 ^ i) in
+    let steps = after_add 8 (8 * k) (bit_xor c (w / 256 ^ i)) in
+    let count = mul-suc 8 k ∙ add_comm (8 * k) 8 in
+    cc
 
-byte_xor : (c b : ℕ) → byte_step c b ≡ bit_xor (after 8 c) (after 8 b)
-unfolding byte_step
-byte_xor c b = after_xor 8 c b
+-- a row of the tables for byte i of a number
+row : (n i w sum : ℕ) → bit_xor sum (after (8 + n) (w / 256 ^ i)) ≡ bit_xor (bit_xor sum (after (8 + n) (byte_at i w))) (after n (w / 256 ^ suc i))
+row n i w sum =
+    let apart = low_byte n (w / 256 ^ i) in
+    let joined = xor_assoc sum (after (8 + n) (byte_at i w)) (after n (w / 256 ^ suc i)) in
+    let (here, up) = above i w in
+    cc
 
--- eight bytes at once, the first four of them over the register's four
-pub eight_bytes : (c b0 b1 b2 b3 b4 b5 b6 b7 : ℕ) → c < 2 ^ 32 →
+-- the rows for the eight bytes of a number
+pub eight_rows : (w : ℕ) → w / 256 ^ 8 ≡ 0 →
     bit_xor (bit_xor (bit_xor (bit_xor (bit_xor (bit_xor (bit_xor
-    (repeated bit_step 64 (bit_xor (c % 256) b0))
-    (repeated bit_step 56 (bit_xor (c / 256 % 256) b1)))
-    (repeated bit_step 48 (bit_xor (c / 65536 % 256) b2)))
-    (repeated bit_step 40 (bit_xor (c / 16777216 % 256) b3)))
-    (repeated bit_step 32 b4)) (repeated bit_step 24 b5)) (repeated bit_step 16 b6)) (repeated bit_step 8 b7)
-    ≡ fold byte_step c (b0 ∷ b1 ∷ b2 ∷ b3 ∷ b4 ∷ b5 ∷ b6 ∷ b7 ∷ [])
-eight_bytes c b0 b1 b2 b3 b4 b5 b6 b7 h =
-    ap (λ (x : ℕ). bit_xor (bit_xor (bit_xor (bit_xor x (after 32 b4)) (after 24 b5)) (after 16 b6)) (after 8 b7)) (
-    (λ i. bit_xor (bit_xor (bit_xor (after_xor 64 (c % 256) b0 i) (after_xor 56 (c / 256 % 256) b1 i)) (after_xor 48 (c / 65536 % 256) b2 i)) (after_xor 40 (c / 16777216 % 256) b3 i))
-    ∙ pair_up (after 64 (c % 256)) (after 56 (c / 256 % 256)) (after 48 (c / 65536 % 256)) (after 40 (c / 16777216 % 256)) (after 64 b0) (after 56 b1) (after 48 b2) (after 40 b3)
-    ∙ ap (λ (x : ℕ). bit_xor x (bit_xor (bit_xor (bit_xor (after 64 b0) (after 56 b1)) (after 48 b2)) (after 40 b3))) (sym (four_bytes c h)))
-    ∙ simp (byte_xor, after_xor, after_add, xor_assoc)
+    (repeated bit_step 64 (byte_at 0 w))
+    (repeated bit_step 56 (byte_at 1 w)))
+    (repeated bit_step 48 (byte_at 2 w)))
+    (repeated bit_step 40 (byte_at 3 w)))
+    (repeated bit_step 32 (byte_at 4 w)))
+    (repeated bit_step 24 (byte_at 5 w)))
+    (repeated bit_step 16 (byte_at 6 w)))
+    (repeated bit_step 8 (byte_at 7 w))
+    ≡ repeated bit_step 64 w
+unfolding repeated
+eight_rows w e =
+    let s0 = after 64 (byte_at 0 w) in
+    let s1 = bit_xor s0 (after 56 (byte_at 1 w)) in
+    let s2 = bit_xor s1 (after 48 (byte_at 2 w)) in
+    let s3 = bit_xor s2 (after 40 (byte_at 3 w)) in
+    let s4 = bit_xor s3 (after 32 (byte_at 4 w)) in
+    let s5 = bit_xor s4 (after 24 (byte_at 5 w)) in
+    let s6 = bit_xor s5 (after 16 (byte_at 6 w)) in
+    let s7 = bit_xor s6 (after 8 (byte_at 7 w)) in
+    let first : after 64 w ≡ bit_xor s0 (after 56 (w / 256 ^ 1)) = low_byte 56 w in
+    let end = ap (bit_xor s7) e ∙ xor_zero_r s7 in
+    sym (first ∙ row 48 1 w s0 ∙ row 40 2 w s1 ∙ row 32 3 w s2 ∙ row 24 4 w s3 ∙ row 16 5 w s4 ∙ row 8 6 w s5 ∙ row 0 7 w s6 ∙ end)

@@ -39,14 +39,14 @@ fn byte_step(register: u32, byte: u8) -> u32
 fn eight_step(register: u32, bytes: &[u8; 8]) -> u32
     ensures { result ≡ fold byte_step register bytes.now }
 {
-    let [r0, r1, r2, r3] = register.to_le_bytes();
-    let [b0, b1, b2, b3, b4, b5, b6, b7] = *bytes;
-    crc32c_entry(7, r0 ^ b0)
-        ^ crc32c_entry(6, r1 ^ b1)
-        ^ crc32c_entry(5, r2 ^ b2)
-        ^ crc32c_entry(4, r3 ^ b3)
-        ^ crc32c_entry(3, b4)
-        ^ crc32c_entry(2, b5)
-        ^ crc32c_entry(1, b6)
-        ^ crc32c_entry(0, b7)
+    let sum = u64::from(register) ^ u64::from_le_bytes(*bytes);
+    let [s0, s1, s2, s3, s4, s5, s6, s7] = sum.to_le_bytes();
+    crc32c_entry(7, s0)
+        ^ crc32c_entry(6, s1)
+        ^ crc32c_entry(5, s2)
+        ^ crc32c_entry(4, s3)
+        ^ crc32c_entry(3, s4)
+        ^ crc32c_entry(2, s5)
+        ^ crc32c_entry(1, s6)
+        ^ crc32c_entry(0, s7)
 }

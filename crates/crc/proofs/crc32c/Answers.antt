@@ -1,6 +1,6 @@
 use Rattle.std.proofs.Common.{◌/◌, length, rules}
 use Rattle.crc.specs.Crc.{byte_step, crc32c}
-use Rattle.crc.proofs.Eights.{folded_chunked}
+use Rattle.crc.proofs.Parts.{folded_chunked}
 use Rattle.crc.proofs.crc32c.Goals as goal
 
 pub returns : goal.returns

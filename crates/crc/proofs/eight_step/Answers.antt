@@ -1,17 +1,27 @@
-use Rattle.std.proofs.Common.{◌≡◌, ℕ, List, length, get_or, ap, arith}
-use Rattle.crc.proofs.Eights.{eight_listed}
-use Rattle.crc.proofs.Steps.{eight_bytes}
+use Rattle.std.proofs.Common.{◌≡◌, ℕ, List, get_or, ap, w64, div-one, arith}
+use lib.Bits.{bit_xor, xor_lt}
+use Rattle.std.specs.Int.{to_le_bytes}
+use Rattle.std.proofs.Math.Nat.{div-eq_of_lt}
+use Rattle.std.proofs.lemmas.Nat.{le_bytes_8}
+use Rattle.crc.proofs.Steps.{bytes_in, eight_rows}
 use Rattle.crc.proofs.eight_step.Goals as goal
 
 pub returns : goal.returns
 returns c =
-    let s = c.args.bytes.now in
-    let many : length s ≡ 8 = omega arith in
-    let listed = eight_listed s many in
-    let bytes = eight_bytes c.args.register (get_or s 0 0) (get_or s 1 0) (get_or s 2 0) (get_or s 3 0) (get_or s 4 0) (get_or s 5 0) (get_or s 6 0) (get_or s 7 0) c.ranges.register.fits in
-    let le = c.to_le_bytes.ensures in
-    let r0 = ap (λ (l : List ℕ). get_or l 0 0) le in
-    let r1 = ap (λ (l : List ℕ). get_or l 1 0) le in
-    let r2 = ap (λ (l : List ℕ). get_or l 2 0) le in
-    let r3 = ap (λ (l : List ℕ). get_or l 3 0) le in
+    let register = c.args.register in
+    let bytes = c.args.bytes.now in
+    let word = c.from_le_bytes.result in
+    let read : to_le_bytes w64 word ≡ bytes = le_bytes_8 bytes word (omega arith) c.fits-bytes c.from_le_bytes.ensures in
+    let rows = eight_rows (bit_xor register word) (div-eq_of_lt (xor_lt 64 register word (omega arith) c.from_le_bytes.type_inv)) in
+    let folded = bytes_in 8 0 register word (div-eq_of_lt c.from_le_bytes.type_inv) in
+    let whole = div-one word in
+    let byte = λ (k : ℕ). ap (λ (l : List ℕ). get_or l k 0) c.to_le_bytes.ensures in
+    let b0 = byte 0 in
+    let b1 = byte 1 in
+    let b2 = byte 2 in
+    let b3 = byte 3 in
+    let b4 = byte 4 in
+    let b5 = byte 5 in
+    let b6 = byte 6 in
+    let b7 = byte 7 in
     cc
