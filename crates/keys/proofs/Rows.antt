@@ -1,10 +1,9 @@
--- What a search answers, as a test of whether the key is among those of the row. Assumes nothing.
-use Rattle.std.proofs.Common.{◌≡◌, ℕ, ◌+◌, ◌-◌, ◌<◌, Bool, ◌||◌, eqb, List, [], ◌∷◌, length, take, drop, is_some, Some, None, Decides, Option, sym, refl, ap, ◌∙◌, subst, ⊎_elim}
-use Rattle.std.proofs.lemmas.List.{drop-drop, take_rest}
-use Rattle.std.proofs.lemmas.Bool.{cases_Bool}
+-- Whether a key stands in a row twice, by its places. Assumes nothing.
+use Rattle.std.proofs.Common.{◌≡◌, ◌≢◌, ℕ, zero, suc, ◌<◌, Bool, true, false, eqb, List, [], ◌∷◌, length, slice_index_or, Decides, refl, arith}
+use Rattle.std.proofs.lemmas.Bool.{false_from_ne_true, or_from, or_left, or_right}
 use Rattle.std.proofs.lemmas.Bool.Decides.{Decides-eqb, Decides-by_or}
-use Rattle.std.specs.List.{HoldsAt, list_any, enumerate_from}
-use Rattle.keys.specs.Keys.{Test, Sought, among, twice}
+use Rattle.std.specs.List.{HoldsAt}
+use Rattle.keys.specs.Keys.{Test, among, twice}
 
 -- numbers are told apart by `eqb`
 pub number_test : Test eqb
@@ -16,26 +15,21 @@ unfolding among
 among_stands same test keys key =
     Decides-by_or (same key) (λ x. key ≡ x) (among same key) (test key) refl (λ _ _. refl) keys
 
--- a search finds a place exactly if the key is among those of the row
-pub sought_among : {K : Type 0} (same : K → K → Bool) → Test same → (keys : List K) (key : K) (r : Option ℕ) → Sought keys key r → among same key keys ≡ is_some r
-sought_among same test keys key None nowhere =
-    ⊎_elim
-    (λ e. let s = (among_stands same test keys key).0 e in absurd (nowhere s.0 key s.1 (sym (s.2 key))))
-    (λ e. e)
-    (cases_Bool (among same key keys))
-sought_among same test keys key (Some place) first =
-    (among_stands same test keys key).1 (place, first.inside, λ d. sym (first.here d))
-
--- a search in the rest of the row, after the place i, says whether the key is among those there
-pub among_later : {K : Type 0} (same : K → K → Bool) → Test same → (keys : List K) (key : K) (i : ℕ) (r : Option ℕ) → Sought (take (length keys - (i + 1)) (drop (i + 1) keys)) key r → among same key (drop (i + 1) keys) ≡ is_some r
-among_later same test keys key i r sought =
-    sought_among same test (drop (i + 1) keys) key r (subst (λ row. Sought row key r) (take_rest keys (i + 1)) sought)
-
--- a key stands twice from the place i on exactly if one there is among the later ones
-pub twice_later : {K : Type 0} (same : K → K → Bool) (keys rest : List K) (i : ℕ) → drop i keys ≡ rest → list_any (λ p. among same p.1 (drop (p.0 + 1) keys)) (enumerate_from i rest) ≡ twice same rest
+-- if no two places of a row have one key, no key stands there twice
+pub apart_once : {K : Type 0} (same : K → K → Bool) → Test same → (keys : List K) → ((k : ℕ) → k < length keys → (j : ℕ) → j < k → (d : K) → slice_index_or keys j d ≢ slice_index_or keys k d) → twice same keys ≡ false
 unfolding twice
-twice_later same keys [] i is = refl
-twice_later same keys (k ∷ ks) i is =
-    let later : drop (i + 1) keys ≡ ks = sym (drop-drop 1 i keys) ∙ ap (drop 1) is in
-    ap (λ l. among same k l || list_any (λ p. among same p.1 (drop (p.0 + 1) keys)) (enumerate_from (i + 1) ks)) later
-    ∙ ap (λ b. among same k ks || b) (twice_later same keys ks (i + 1) later)
+apart_once same test [] apart = refl
+apart_once same test (key ∷ keys) apart =
+    or_from _ _
+    (false_from_ne_true (among same key keys) (λ e. let s = (among_stands same test keys key).0 e in apart (suc s.0) (omega (arith, s.1)) 0 (omega arith) key (s.2 key)))
+    (apart_once same test keys (λ k m j l d. apart (suc k) (omega arith) (suc j) (omega arith) d))
+
+-- if two places of a row have one key, it stands there twice
+pub places_twice : {K : Type 0} (same : K → K → Bool) → Test same → (keys : List K) (j k : ℕ) → j < k → k < length keys → ((d : K) → slice_index_or keys j d ≡ slice_index_or keys k d) → twice same keys ≡ true
+unfolding twice
+places_twice same test [] j k l m e = absurd (omega arith)
+places_twice same test (key ∷ keys) j zero l m e = absurd (omega arith)
+places_twice same test (key ∷ keys) zero (suc k) l m e =
+    or_left _ _ ((among_stands same test keys key).1 (k, omega arith, e))
+places_twice same test (key ∷ keys) (suc j) (suc k) l m e =
+    or_right _ _ (places_twice same test keys j k (omega arith) (omega arith) e)

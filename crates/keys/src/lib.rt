@@ -1,7 +1,7 @@
 //! The search for a key in a row of keys: one text for every kind of key.
 #![tactic(auto)]
 
-ghost use Rattle.std.specs.Prelude.{◌≡◌, Bool, true, false};
+ghost use Rattle.std.specs.Prelude.{◌≡◌, ℕ, Bool, true, false};
 ghost use Rattle.std.specs.declared.cmp.Ordering.{Ordering};
 ghost use Rattle.std.specs.Ordering.{is_eq, nat_cmp};
 ghost use Rattle.keys.specs.Keys.{Sought, Test, twice};
@@ -14,10 +14,17 @@ pub trait Key: Ord {
     /// How the first key compares with the second.
     ghost order: { Self → Self → Ordering };
 
+    /// Which of 256 buckets the key is in. Keys in different buckets differ, so only those in one bucket need be compared.
+    ghost bucket: { Self → ℕ };
+
     /// How this key compares with the other one.
     // Beside `cmp`, which for bytes is the library's: an edit of the gate turns each kind's comparison round here.
     fn compare(&self, other: &Self) -> Ordering
         ensures { result ≡ order self.now other.now };
+
+    /// The bucket of this key.
+    fn bucket(&self) -> u8
+        ensures { result ≡ bucket self.now };
 
     /// The order is that of the type, and so total: exchanging the keys reverses the answer, and "less" chains.
     ghost ordered: { (x y : Self) → Self.cmp x y ≡ order x y };
@@ -30,12 +37,18 @@ pub trait Key: Ord {
 impl Key for u8 {
     ghost order = { nat_cmp };
 
+    ghost bucket = { λ byte. byte };
+
     ghost ordered = { Prim.search rules };
 
     ghost same = { Prim.search rules };
 
     fn compare(&self, other: &u8) -> Ordering {
         self.cmp(other)
+    }
+
+    fn bucket(&self) -> u8 {
+        *self
     }
 }
 
@@ -61,11 +74,17 @@ fn ascends<K: Key>(keys: &[K]) -> bool
     keys.is_sorted_by(|x, y| x.compare(y).is_lt())
 }
 
-// Whether a key stands among those behind it.
+// Whether a key stands among those before it. It is sought there only if one of them is in its bucket.
 fn repeats<K: Key>(keys: &[K]) -> bool
     ensures { (same : K → K → Bool) → Test same → result ≡ twice same keys.now }
 {
-    keys.iter()
-        .enumerate()
-        .any(|(i, key)| find(&keys[i + 1..], key).is_some())
+    let mut met = [false; 256];
+    for (i, key) in keys.iter().enumerate() {
+        let bucket = usize::from(key.bucket());
+        if met[bucket] && find(&keys[..i], key).is_some() {
+            return true;
+        }
+        met[bucket] = true;
+    }
+    false
 }
