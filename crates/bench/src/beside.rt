@@ -1,17 +1,11 @@
 //! Two pairs side by side: each has its own past, and then the same calls are made of both.
-ghost use Rattle.std.specs.Prelude.{◌≡◌};
-ghost use Rattle.pair.specs.View.{step_if};
-ghost use Rattle.bench.specs.Asked.{pair_of_session, asked_in, asked_with};
-
 use crate::lines::Script;
+use crate::recorder::Recorder;
 use crate::run::{at_bad_line, print_note, read_file, run_calls, times};
-use crate::session::Session;
 use crate::setup::at_line;
 use anyhow::{Result, anyhow};
-use pair::call::Task;
-use pair::record::Record;
-use pair::run::run_both;
-use script::command::{Action, Command};
+use script::command::Command;
+use session::beside::make_both;
 
 /// The names of three scripts: the past of each pair, and the calls that are made of both.
 #[derive(Clone, Copy)]
@@ -21,54 +15,21 @@ pub(crate) struct Beside<'a> {
     pub(crate) later: &'a str,
 }
 
-// What a call left of each pair; none where it is no call of a pair.
-#[derive(Drop)]
-struct Made {
-    one: Option<Record>,
-    other: Option<Record>,
-}
-
 // Runs the script of a file under its name.
-fn run_past(rt: &HostRuntime, name: &str) -> Result<Option<Session>> {
+fn run_past(rt: &HostRuntime, name: &str) -> Result<Option<Recorder>> {
     println!(rt; "script {name}")?;
     let text = read_file(rt, name)?;
     run_calls(rt, &text).map_err(|error| anyhow!("{name}: {error}"))
 }
 
-// Makes the same call of both pairs: one that takes up a request or an answer takes up the first pair's.
-fn make_both(one: &mut Session, other: &mut Session, action: &Action, room: usize) -> Made
-    ensures one { pair_of_session one.new ≡ step_if (pair_of_session one.old) (asked_in one.old room action.now) }
-    ensures other { pair_of_session other.new ≡ step_if (pair_of_session other.old) (asked_with one.old.latest other.old room action.now) }
-    ensures latest { one.new.latest ≡ one.old.latest }
-    ensures own { other.new.latest ≡ other.old.latest }
-{
-    let Some(call) = one.latest.call(action) else {
-        return Made {
-            one: None,
-            other: None,
-        };
-    };
-    let mut first = [Record::new()];
-    let mut second = [Record::new()];
-    let tasks = [Task { call, room }];
-    let _made = run_both(
-        &mut one.pair,
-        &mut other.pair,
-        &tasks,
-        &mut first,
-        &mut second,
-    );
-    let [first] = first;
-    let [second] = second;
-    Made {
-        one: Some(first),
-        other: Some(second),
-    }
-}
-
 // Makes the later calls of both pairs. The first pair's lines are printed, and the second's where the call handed back
 // something else.
-fn run_later(rt: &HostRuntime, one: &mut Session, other: &mut Session, text: &[u8]) -> Result<()> {
+fn run_later(
+    rt: &HostRuntime,
+    one: &mut Recorder,
+    other: &mut Recorder,
+    text: &[u8],
+) -> Result<()> {
     let heap = rt.alloc();
     let script = Script::read(heap, text)?;
     println!(rt; "\nboth pairs")?;
@@ -80,7 +41,7 @@ fn run_later(rt: &HostRuntime, one: &mut Session, other: &mut Session, text: &[u
             return Err(at_line(step.line, "a setting among the later calls"));
         };
         for _ in 0..times(action) {
-            let made = make_both(one, other, action, *room);
+            let made = make_both(&mut one.session, &mut other.session, action, *room);
             let first = one.note(heap, action, text, made.one)?;
             let second = other.note(heap, action, text, made.other)?;
             print_note(rt, &first)?;
@@ -101,7 +62,7 @@ fn run_later(rt: &HostRuntime, one: &mut Session, other: &mut Session, text: &[u
 }
 
 // Runs the second pair's past, and the later calls of both.
-fn run_second(rt: &HostRuntime, one: &mut Session, names: Beside<'_>) -> Result<()> {
+fn run_second(rt: &HostRuntime, one: &mut Recorder, names: Beside<'_>) -> Result<()> {
     println!(rt; "")?;
     let Some(mut other) = run_past(rt, names.second)? else {
         return Ok(());

@@ -8,12 +8,10 @@ use std::env;
 use std::io::Read;
 
 mod beside;
-mod boards;
-mod carriers;
 mod lines;
 mod record;
+mod recorder;
 mod run;
-mod session;
 mod setup;
 mod shown;
 mod words;

@@ -1,11 +1,11 @@
 //! The record of a call: what it handed back, and where all stands after it.
-use crate::boards::NamedBoard;
-use crate::carriers::NamedCarrier;
 use crate::words::{Hex, HexByte, Listed, PhaseName};
 use arrayvec::ArrayVec;
 use carrier::Carrier;
 use event::enabled::has;
 use pair::pair::Pair;
+use session::boards::NamedBoard;
+use session::carriers::NamedCarrier;
 use std::alloc::{AllocError, Global};
 
 /// The places of a board, of which there are at most 64, that pass a test.

@@ -1,10 +1,11 @@
 //! Scripts are run, and their records printed.
 use crate::lines::{BadLine, Script, Step};
-use crate::session::{Note, Session};
+use crate::recorder::{Note, Recorder};
 use crate::setup::{Setup, at_line};
 use crate::words::Refused;
 use anyhow::{Result, anyhow};
 use script::command::{Action, Command};
+use session::session::Session;
 use std::fs;
 
 /// How often a call is made.
@@ -42,7 +43,7 @@ fn lacking(steps: &[Step], what: &str) -> anyhow::Error {
 }
 
 // A session on the board and the carrier of a script; none if one of them is refused, which is printed.
-fn open(rt: &HostRuntime, script: &Script) -> Result<Option<Session>> {
+fn open(rt: &HostRuntime, script: &Script) -> Result<Option<Recorder>> {
     let heap = rt.alloc();
     let (settings, steps) = script.parts();
     let setup = Setup::read(heap, settings)?;
@@ -53,7 +54,10 @@ fn open(rt: &HostRuntime, script: &Script) -> Result<Option<Session>> {
         return Err(lacking(steps, what));
     }
     match setup.make() {
-        Some(Ok((board, carrier))) => Ok(Some(Session::new(heap, board, carrier))),
+        Some(Ok((board, carrier))) => {
+            let session = Session::new(heap, board, carrier);
+            Ok(Some(Recorder::new(session)))
+        }
         Some(Err(refusal)) => {
             let refused = Refused(refusal);
             println!(rt; "{refused}")?;
@@ -64,7 +68,7 @@ fn open(rt: &HostRuntime, script: &Script) -> Result<Option<Session>> {
 }
 
 // Makes the calls of a script, and prints their record.
-fn work(rt: &HostRuntime, session: &mut Session, script: &Script) -> Result<()> {
+fn work(rt: &HostRuntime, recorder: &mut Recorder, script: &Script) -> Result<()> {
     let heap = rt.alloc();
     let (_, steps) = script.parts();
     for step in steps {
@@ -72,8 +76,8 @@ fn work(rt: &HostRuntime, session: &mut Session, script: &Script) -> Result<()> 
             return Err(at_line(step.line, "a setting after the first call"));
         };
         for _ in 0..times(action) {
-            let made = session.make(action, *room);
-            let note = session.note(heap, action, text, made)?;
+            let made = recorder.session.make(action, *room);
+            let note = recorder.note(heap, action, text, made)?;
             print_note(rt, &note)?;
         }
     }
@@ -85,15 +89,15 @@ fn work(rt: &HostRuntime, session: &mut Session, script: &Script) -> Result<()> 
 
 /// Runs a script and prints its record, but for the table at its end. Hands back the session, unless the board or the
 /// carrier is refused.
-pub(crate) fn run_calls(rt: &HostRuntime, text: &[u8]) -> Result<Option<Session>> {
+pub(crate) fn run_calls(rt: &HostRuntime, text: &[u8]) -> Result<Option<Recorder>> {
     let script = Script::read(rt.alloc(), text)?;
-    let Some(mut session) = open(rt, &script)? else {
+    let Some(mut recorder) = open(rt, &script)? else {
         return Ok(None);
     };
-    match work(rt, &mut session, &script) {
-        Ok(()) => Ok(Some(session)),
+    match work(rt, &mut recorder, &script) {
+        Ok(()) => Ok(Some(recorder)),
         Err(error) => {
-            session.end();
+            recorder.end();
             Err(error)
         }
     }
@@ -101,11 +105,11 @@ pub(crate) fn run_calls(rt: &HostRuntime, text: &[u8]) -> Result<Option<Session>
 
 /// Runs a script and prints its record.
 pub(crate) fn run_script(rt: &HostRuntime, text: &[u8]) -> Result<()> {
-    let Some(mut session) = run_calls(rt, text)? else {
+    let Some(mut recorder) = run_calls(rt, text)? else {
         return Ok(());
     };
-    let table = session.table(rt.alloc());
-    session.end();
+    let table = recorder.table(rt.alloc());
+    recorder.end();
     let table = table?;
     println!(rt; "{table}")?;
     Ok(())

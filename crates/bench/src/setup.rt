@@ -1,6 +1,4 @@
 //! The settings of a script: its board and its carrier.
-use crate::boards::NamedBoard;
-use crate::carriers::NamedCarrier;
 use crate::lines::Step;
 use anyhow::{Result, anyhow};
 use board::drive::DriveBoard;
@@ -11,6 +9,8 @@ use event::occurrence::Occurrence;
 use event::reading::Reading;
 use event::refusal::Refusal;
 use script::command::Command;
+use session::boards::NamedBoard;
+use session::carriers::NamedCarrier;
 use smbus::SmbusCarrier;
 use std::alloc::Global;
 

@@ -1,5 +1,5 @@
 //! What the book shows, for people.
-use crate::session::Session;
+use crate::recorder::Recorder;
 use crate::words::{Hex, HexByte, Refused};
 use board::Board;
 use event::id::UniqueId;
@@ -37,15 +37,15 @@ fn row(heap: Global, id: UniqueId, shown: &str) -> Result<String, AllocError> {
     format!(in heap; "\n  {event:<52}{scope:<26}{shown}")
 }
 
-impl Session {
+impl Recorder {
     /// The table of what the book shows of each source of the board; or why it shows none of them.
     pub(crate) fn table(&mut self, heap: Global) -> Result<String, AllocError> {
         let mut text = String::from_str(heap, "book")?;
-        for place in 0..self.pair.board().count() {
-            let Some(id) = self.pair.board().id(place) else {
+        for place in 0..self.session.pair.board().count() {
+            let Some(id) = self.session.pair.board().id(place) else {
                 continue;
             };
-            let Some(record) = self.make(&Action::Show { id }, 64) else {
+            let Some(record) = self.session.make(&Action::Show { id }, 64) else {
                 continue;
             };
             let shown = shown(heap, &record)?;

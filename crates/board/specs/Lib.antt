@@ -2,3 +2,4 @@ pub mod Boards
 pub mod Changes
 pub mod Drives
 pub mod Tables
+pub mod Told

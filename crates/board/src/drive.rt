@@ -19,9 +19,11 @@ pub struct DriveBoard {
 }
 
 impl DriveBoard {
+    ghost use Rattle.board.specs.Told.{drive_told};
+
     /// The board of a drive with this controller ID; every status is zero.
     pub fn new(controller: u16) -> DriveBoard
-        ensures { drive_sources result.status ≡ new_drive controller }
+        ensures { drive_told result ≡ new_drive controller }
     {
         let status = DriveStatus {
             controller,
@@ -33,7 +35,9 @@ impl DriveBoard {
 
 /// A drive board tells its statuses in the order of the identifiers.
 impl Board for DriveBoard {
-    ghost told = { λ b. drive_sources b.status };
+    ghost use Rattle.board.specs.Told.{drive_told};
+
+    ghost told = { drive_told };
 
     ghost lawful = { Prim.search rules };
 

@@ -22,9 +22,11 @@ pub struct TableBoard {
 }
 
 impl TableBoard {
+    ghost use Rattle.board.specs.Told.{table_told};
+
     /// A board of these rows, or why not: there are not 1 to 64 of them, one is unlawful, or an ID stands in two.
     pub fn new(rows: &[Occurrence]) -> Result<TableBoard, Refusal>
-        ensures { told_if (λ b. table_sources b.rows) result ≡ board_of (row_refusal (rows_told rows.now)) (rows_told rows.now) }
+        ensures { told_if table_told result ≡ board_of (row_refusal (rows_told rows.now)) (rows_told rows.now) }
     {
         if rows.is_empty() {
             return Err(Refusal::RowCount);
@@ -42,7 +44,9 @@ impl TableBoard {
 
 /// A table board tells its rows.
 impl Board for TableBoard {
-    ghost told = { λ b. table_sources b.rows };
+    ghost use Rattle.board.specs.Told.{table_told};
+
+    ghost told = { table_told };
 
     ghost lawful = { Prim.search rules };
 

@@ -1,1 +1,2 @@
 pub mod Carriers
+pub mod Mailboxes

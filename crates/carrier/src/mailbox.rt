@@ -1,6 +1,6 @@
 //! The mailbox carrier: it keeps the message whole.
 ghost use Rattle.std.specs.Prelude.{◌≡◌, ◌≤◌, length};
-ghost use Rattle.carrier.specs.Carriers.{linked, kept, new_line};
+ghost use Rattle.carrier.specs.Carriers.{new_line};
 ghost use Rattle.std.proofs.Common.{rules};
 
 use crate::{Carrier, fits};
@@ -18,9 +18,11 @@ pub struct Mailbox {
 }
 
 impl Mailbox {
+    ghost use Rattle.carrier.specs.Mailboxes.{line_of};
+
     /// A new mailbox: the link is up, and nothing lies there.
     pub fn new() -> Mailbox
-        ensures { linked result.up (kept result.destination result.bytes.items) ≡ new_line }
+        ensures { line_of result ≡ new_line }
     {
         Mailbox {
             up: true,
@@ -31,7 +33,9 @@ impl Mailbox {
 }
 
 impl Carrier for Mailbox {
-    ghost carried = { λ m. linked m.up (kept m.destination m.bytes.items) };
+    ghost use Rattle.carrier.specs.Mailboxes.{line_of};
+
+    ghost carried = { line_of };
 
     ghost fits = { Prim.search rules };
 

@@ -1,5 +1,5 @@
 //! The carriers that a script may name, as one type.
-ghost use Rattle.bench.specs.Named.{carried_by};
+ghost use Rattle.session.specs.Named.{carried_by};
 ghost use Rattle.smbus.specs.Lying.{line_fits};
 ghost use Rattle.std.proofs.Common.{rules};
 
@@ -10,7 +10,7 @@ use smbus::SmbusCarrier;
 
 /// A mailbox or an SMBus carrier.
 #[derive(Drop)]
-pub(crate) enum NamedCarrier {
+pub enum NamedCarrier {
     Mailbox(Mailbox),
     Smbus(SmbusCarrier),
 }

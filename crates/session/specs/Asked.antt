@@ -1,5 +1,5 @@
--- Which call of a pair an action of a script is. Assumes nothing.
-use Rattle.std.specs.Prelude.{ℕ, min, take, Some, None, Ok, Option, Result, vec_items}
+-- Which call of a pair an action of a script is, and what it leaves. Assumes nothing.
+use Rattle.std.specs.Prelude.{ℕ, Bool, true, false, cond, min, take, Some, None, Ok, Option, Result, vec_items}
 use Rattle.event.specs.Bytes.{Bytes}
 use Rattle.event.specs.declared.refusal.Refusal.{Refusal}
 use Rattle.wire.specs.declared.types.Kind.{Kind}
@@ -20,9 +20,10 @@ use Rattle.protocol.specs.Pair.{
   resets,
 }
 use Rattle.pair.specs.Receipts.{awaited}
-use Rattle.pair.specs.Runs.{Note}
-use Rattle.pair.specs.View.{pair_in, answer_if, give_up_if, call_of}
+use Rattle.pair.specs.Runs.{Note, note_of, note_after, empty_note}
+use Rattle.pair.specs.View.{pair_in, answer_if, give_up_if, call_of, outcome_if}
 use Rattle.pair.specs.declared.call.Call.{Call as Told}
+use Rattle.pair.specs.declared.record.Record.{Record}
 use Rattle.script.specs.declared.command.Action.{Action}
 use Rattle.script.specs.declared.command.Action.TheVariants.{
   Change,
@@ -41,9 +42,9 @@ use Rattle.script.specs.declared.command.Action.TheVariants.{
   Show,
   Packets,
 }
-use Rattle.bench.specs.declared.session.Latest.{Latest}
-use Rattle.bench.specs.declared.session.Session.{Session}
-use Rattle.bench.specs.Named.{told_by, carried_by}
+use Rattle.session.specs.declared.latest.Latest.{Latest}
+use Rattle.session.specs.declared.session.Session.{Session}
+use Rattle.session.specs.Named.{told_by, carried_by}
 
 -- the call of the definitions that an action is, with a buffer of `room` bytes, while a request of this kind is awaited. A message that is not said is the request last written, or the latest answer. Telling the packets is no call
 abbrev pub asked : Latest → Option Kind → (room : ℕ) → Action → Option Call
@@ -64,6 +65,11 @@ asked l kind room PickUp = Some (picks_up room)
 asked l kind room Fetch = Some (fetches room)
 asked l kind room (Show id) = Some (shows id room)
 asked l kind room Packets = None
+
+-- is an action a call of a pair? Telling the packets is none
+abbrev pub is_call : Action → Bool
+is_call Packets = false
+is_call other = true
 
 -- the bytes that a call wrote, if it succeeded; else these
 abbrev pub written_or : Bytes → Option (Result ℕ Refusal) → Bytes → Bytes
@@ -97,3 +103,12 @@ asked_with l s room action = asked l (awaited s.pair.manager.book.phase) (min ro
 -- the call that an action is in a session
 abbrev pub asked_in : Session → (room : ℕ) → Action → Option Call
 asked_in s room action = asked_with s.latest s room action
+
+-- what a record holds, if there is one
+abbrev pub note_if : Option Record → Option Note
+note_if None = None
+note_if (Some r) = Some (note_of r)
+
+-- the record of an action which is this call to this pair, if it is a call of a pair at all
+abbrev pub note_left : Pair → Option Call → Action → Option Note
+note_left p c action = cond (is_call action) (Some (note_after (outcome_if p c) empty_note)) None

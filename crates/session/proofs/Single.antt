@@ -8,8 +8,8 @@ use Rattle.pair.specs.View.{step_if}
 use Rattle.pair.specs.Runs.{prepend}
 use Rattle.pair.specs.declared.call.Call.{Call as Told}
 use Rattle.pair.proofs.Loops.{run-prepend}
-use Rattle.bench.specs.Asked.{call_if, pair_of_session}
-use Rattle.bench.specs.declared.session.Session.{Session}
+use Rattle.session.specs.Asked.{call_if, pair_of_session}
+use Rattle.session.specs.declared.session.Session.{Session}
 
 -- in a session, with the room that is lent, for a call that is one of the definitions
 pub ran-one : (s : Session) (room : ℕ) (call : Told) (p' : Pair) (asks : Option Kind → ℕ → Option Call) → let kind = awaited s.pair.manager.book.phase in let lent = min room 4224 in

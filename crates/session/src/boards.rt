@@ -1,5 +1,5 @@
 //! The boards that a script may name, as one type.
-ghost use Rattle.bench.specs.Named.{told_by};
+ghost use Rattle.session.specs.Named.{told_by};
 ghost use Rattle.std.proofs.Common.{rules};
 
 use board::Board;
@@ -10,7 +10,7 @@ use event::reading::Reading;
 
 /// A drive board or a table board.
 #[derive(Drop)]
-pub(crate) enum NamedBoard {
+pub enum NamedBoard {
     Drive(DriveBoard),
     Table(TableBoard),
 }
