@@ -1,5 +1,5 @@
 //! A script: the commands of its lines, up to the first line that is none.
-use script::command::Command;
+use script::command::{Action, Command};
 use script::parse::parse;
 use std::alloc::{AllocError, Global};
 use syntax::fault::Fault;
@@ -9,6 +9,14 @@ use syntax::fault::Fault;
 pub(crate) struct Step {
     pub(crate) line: usize,
     pub(crate) command: Command,
+}
+
+/// A call that a script asks for, as the record repeats it, and the length of the buffer that is lent to it.
+#[derive(Clone, Copy)]
+pub(crate) struct Asked<'a> {
+    pub(crate) action: &'a Action,
+    pub(crate) text: &'a [u8],
+    pub(crate) room: usize,
 }
 
 /// The first line of a script that is no command, and why.
@@ -26,9 +34,26 @@ pub(crate) struct Script {
 }
 
 impl Step {
-    // Whether it is a call, and not a setting.
-    fn is_call(&self) -> bool {
-        matches!(self.command, Command::Call { .. })
+    /// The call that it asks for; none where it is a setting.
+    pub(crate) fn call(&self) -> Option<Asked<'_>> {
+        match &self.command {
+            Command::Call { action, text, room } => Some(Asked {
+                action,
+                text,
+                room: *room,
+            }),
+            _ => None,
+        }
+    }
+}
+
+impl Asked<'_> {
+    /// How often the call is made.
+    pub(crate) fn times(self) -> usize {
+        match self.action {
+            Action::Tick { count } => *count,
+            _ => 1,
+        }
     }
 }
 
@@ -60,7 +85,7 @@ impl Script {
         let steps = self.steps();
         let first = steps
             .iter()
-            .position(|step| step.is_call())
+            .position(|step| step.call().is_some())
             .unwrap_or(steps.len());
         steps.split_at_checked(first).unwrap_or((steps, &[]))
     }

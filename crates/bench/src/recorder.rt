@@ -1,4 +1,5 @@
 //! A session, and the record of its calls.
+use crate::lines::Asked;
 use crate::record::{packets, standing};
 use crate::words::{Reply, Text};
 use pair::record::Record;
@@ -25,25 +26,32 @@ impl Recorder {
         Recorder { session, calls: 0 }
     }
 
+    // What a call handed back, in words. Keeps what later calls take up.
+    fn told(
+        &mut self,
+        heap: Global,
+        action: &Action,
+        made: Option<Record>,
+    ) -> Result<String, AllocError> {
+        let Some(record) = made else {
+            return packets(heap, self.session.pair.carrier());
+        };
+        self.session.latest.keep(heap, action, &record)?;
+        let reply = Reply(&record);
+        format!(in heap; "{reply}")
+    }
+
     /// Notes a call that was made: counts it, and keeps what later calls take up.
     pub(crate) fn note(
         &mut self,
         heap: Global,
-        action: &Action,
-        text: &[u8],
+        call: Asked<'_>,
         made: Option<Record>,
     ) -> Result<Note, AllocError> {
-        let told = match made {
-            Some(record) => {
-                self.session.latest.keep(heap, action, &record)?;
-                let reply = Reply(&record);
-                format!(in heap; "{reply}")?
-            }
-            None => packets(heap, self.session.pair.carrier())?,
-        };
+        let told = self.told(heap, call.action, made)?;
         self.calls = self.calls.saturating_add(1);
         let number = self.calls;
-        let text = Text(text);
+        let text = Text(call.text);
         Ok(Note {
             call: format!(in heap; "{number} {text}: {told}")?,
             standing: standing(heap, &self.session.pair)?,

@@ -4,17 +4,9 @@ use crate::recorder::{Note, Recorder};
 use crate::setup::{Setup, at_line};
 use crate::words::Refused;
 use anyhow::{Result, anyhow};
-use script::command::{Action, Command};
 use session::session::Session;
+use std::alloc::Global;
 use std::fs;
-
-/// How often a call is made.
-pub(crate) fn times(action: &Action) -> usize {
-    match action {
-        Action::Tick { count } => *count,
-        _ => 1,
-    }
-}
 
 /// Prints the two lines of a call.
 pub(crate) fn print_note(rt: &HostRuntime, note: &Note) -> Result<()> {
@@ -42,18 +34,23 @@ fn lacking(steps: &[Step], what: &str) -> anyhow::Error {
     }
 }
 
-// A session on the board and the carrier of a script; none if one of them is refused, which is printed.
-fn open(rt: &HostRuntime, script: &Script) -> Result<Option<Recorder>> {
-    let heap = rt.alloc();
+// The settings of a script, which has to name a board and a carrier.
+fn settings(heap: Global, script: &Script) -> Result<Setup> {
     let (settings, steps) = script.parts();
     let setup = Setup::read(heap, settings)?;
     if let ([], Some(bad)) = (steps, script.bad) {
         return Err(at_bad_line(bad));
     }
-    if let Some(what) = setup.lacks() {
-        return Err(lacking(steps, what));
+    match setup.lacks() {
+        Some(what) => Err(lacking(steps, what)),
+        None => Ok(setup),
     }
-    match setup.make() {
+}
+
+// A session on the board and the carrier of a script; none if one of them is refused, which is printed.
+fn open(rt: &HostRuntime, script: &Script) -> Result<Option<Recorder>> {
+    let heap = rt.alloc();
+    match settings(heap, script)?.make() {
         Some(Ok((board, carrier))) => {
             let session = Session::new(heap, board, carrier);
             Ok(Some(Recorder::new(session)))
@@ -72,12 +69,12 @@ fn work(rt: &HostRuntime, recorder: &mut Recorder, script: &Script) -> Result<()
     let heap = rt.alloc();
     let (_, steps) = script.parts();
     for step in steps {
-        let Command::Call { action, text, room } = &step.command else {
+        let Some(call) = step.call() else {
             return Err(at_line(step.line, "a setting after the first call"));
         };
-        for _ in 0..times(action) {
-            let made = recorder.session.make(action, *room);
-            let note = recorder.note(heap, action, text, made)?;
+        for _ in 0..call.times() {
+            let made = recorder.session.make(call.action, call.room);
+            let note = recorder.note(heap, call, made)?;
             print_note(rt, &note)?;
         }
     }

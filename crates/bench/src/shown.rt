@@ -37,25 +37,43 @@ fn row(heap: Global, id: UniqueId, shown: &str) -> Result<String, AllocError> {
     format!(in heap; "\n  {event:<52}{scope:<26}{shown}")
 }
 
+// Whether it was refused since the book shows nothing at all.
+fn shows_nothing(record: &Record) -> bool {
+    matches!(
+        record.reply(),
+        Some(Err(Refusal::StillAwaiting | Refusal::BookBlind))
+    )
+}
+
+// The line of a source, or of why the book shows nothing at all.
+fn line(heap: Global, id: UniqueId, record: &Record) -> Result<String, AllocError> {
+    let shown = shown(heap, record)?;
+    if shows_nothing(record) {
+        return format!(in heap; "\n  {shown}");
+    }
+    row(heap, id, &shown)
+}
+
 impl Recorder {
+    // Shows the source at a place, if there is one.
+    fn show(&mut self, place: usize) -> Option<(UniqueId, Record)> {
+        let id = self.session.pair.board().id(place)?;
+        let record = self.session.make(&Action::Show { id }, 64)?;
+        Some((id, record))
+    }
+
     /// The table of what the book shows of each source of the board; or why it shows none of them.
     pub(crate) fn table(&mut self, heap: Global) -> Result<String, AllocError> {
         let mut text = String::from_str(heap, "book")?;
         for place in 0..self.session.pair.board().count() {
-            let Some(id) = self.session.pair.board().id(place) else {
+            let Some((id, record)) = self.show(place) else {
                 continue;
             };
-            let Some(record) = self.session.make(&Action::Show { id }, 64) else {
-                continue;
-            };
-            let shown = shown(heap, &record)?;
-            if let Some(Err(Refusal::StillAwaiting | Refusal::BookBlind)) = record.reply() {
-                text.push_str("\n  ")?;
-                text.push_str(&shown)?;
+            let line = line(heap, id, &record)?;
+            text.push_str(&line)?;
+            if shows_nothing(&record) {
                 break;
             }
-            let row = row(heap, id, &shown)?;
-            text.push_str(&row)?;
         }
         Ok(text)
     }
