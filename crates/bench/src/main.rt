@@ -23,18 +23,12 @@ fn main(rt: HostRuntime) -> Result<()> {
     run_scripts(&rt)
 }
 
-// The arguments, without the name of the program.
-fn arguments(rt: &HostRuntime) -> Result<Vec<String>> {
+// What the arguments ask for: scripts, and after a flag two pairs side by side. With none the script is on standard input.
+fn run_scripts(rt: &HostRuntime) -> Result<()> {
     let mut names = Vec::new(rt.alloc());
     for name in env::args(rt)?.skip(1) {
         names.push(name)?;
     }
-    Ok(names)
-}
-
-// What the arguments ask for: scripts, and after a flag two pairs side by side. With none the script is on standard input.
-fn run_scripts(rt: &HostRuntime) -> Result<()> {
-    let names = arguments(rt)?;
     let flag = names.iter().position(|name| name.as_str() == SIDE_BY_SIDE);
     match flag.and_then(|place| names.split_at_checked(place)) {
         Some(([], pairs)) => run_pairs(rt, pairs),
