@@ -1,5 +1,5 @@
-pub mod Firsts
-pub mod Marked
-pub mod Calls
-pub mod Short
-pub mod Shown
+pub mod Results
+pub mod Boards
+pub mod Read
+pub mod Sent
+pub mod Asked

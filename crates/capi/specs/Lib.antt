@@ -1,6 +1,3 @@
-pub mod Crossing
-pub mod Outcomes
 pub mod Reading
 pub mod Packing
 pub mod Runs
-pub mod Rounds

@@ -1,55 +1,12 @@
--- Runs of a writer and of an endpoint on one board, for measurements. Assumes nothing.
-use Rattle.std.specs.Prelude.{◌≡◌, ℕ, cond, List, [], ◌∷◌, length, Some, None, Ok, Err, Option, Result, ◌==◌}
+-- What a run leaves to C. Assumes nothing.
+use Rattle.std.specs.Prelude.{◌≡◌, ℕ, List, Some, None, Err, Option}
 use Rattle.event.specs.declared.refusal.Refusal.{Refusal}
 use Rattle.event.specs.Bytes.{Bytes}
-use Rattle.event.specs.Outcomes.{Outcome, over_front}
-use Rattle.event.specs.Sources.{Occurrence, ids}
-use Rattle.board.specs.Boards.{Sources}
+use Rattle.event.specs.Sources.{Occurrence}
 use Rattle.board.specs.Tables.{row_refusal}
-use Rattle.wire.specs.Writing.{writes_event}
-use Rattle.carrier.specs.Carriers.{Line, new_line}
-use Rattle.protocol.specs.Endpoint.{Endpoint, new_endpoint, Turn, tick, request}
-use Rattle.capi.specs.Outcomes.{refusal_number, count_of}
-
--- what the last call handed back, and the buffer that all calls write into
-pub record Run : Type 0 where
-  pub result : Result ℕ Refusal
-  pub buffer : Bytes
-
--- a run of this result and buffer
-abbrev pub run : Result ℕ Refusal → Bytes → Run
-run result buffer = record { result = result; buffer = buffer }
-
--- before the first call
-abbrev pub at_start : Bytes → Run
-at_start buffer = run (Ok 0) buffer
-
--- after a call
-abbrev pub after : Outcome → Bytes → Run
-after o buffer = run o.result (over_front o.written buffer)
-
--- event messages of these occurrences, one for each transmission info
-unfoldable pub writes : List Occurrence → (transmissions : List ℕ) → Run → Run
-writes os [] r = r
-writes os (t ∷ ts) r = writes os ts (after (writes_event (length r.buffer) t os) r.buffer)
-
--- a step of an endpoint: 0 is a tick, any other number a request of the sender of this number
-abbrev pub step : Sources → (message : Bytes) → (number room : ℕ) → Line → Endpoint → Turn
-step board message number room line e =
-    cond (number == 0) (tick (ids board) room line e) (request room number message board line e)
-
--- a run goes on with what is left of it
-abbrev pub goes_on : (Line → Endpoint → Run → Run) → Turn → Bytes → Run
-goes_on next t buffer = next t.line t.endpoint (after t.outcome buffer)
-
--- the steps in their order
-unfoldable pub steps : Sources → (message : Bytes) → (numbers : List ℕ) → Line → Endpoint → Run → Run
-steps board message [] line e r = r
-steps board message (n ∷ ns) line e r = goes_on (steps board message ns) (step board message n (length r.buffer) line e) r.buffer
-
--- the steps of a new endpoint on a new line
-abbrev pub new_steps : Sources → (message : Bytes) → (numbers : List ℕ) → (buffer : Bytes) → Run
-new_steps board message numbers buffer = steps board message numbers new_line new_endpoint (at_start buffer)
+use Rattle.measured.specs.Rounds.{Round}
+use Rattle.measured.specs.Runs.{Run, run}
+use Rattle.crossing.specs.Outcomes.{refusal_number, count_of}
 
 -- a run on a table board of these rows, if they are not refused
 abbrev pub on_rows : Option Refusal → (buffer : Bytes) → Run → Run
@@ -61,3 +18,9 @@ pub record RunsOn (rows : List Occurrence) (r : Run) (before filled : Bytes) (n 
   pub number : result ≡ refusal_number (on_rows (row_refusal rows) before r).result
   pub count : n ≡ count_of (on_rows (row_refusal rows) before r).result
   pub buffer : filled ≡ (on_rows (row_refusal rows) before r).buffer
+
+-- a call leaves the buffer of its last round, its count, and the number of its refusal
+pub record Ends (r : Round) (after : Bytes) (n result : ℕ) : Type 0 where
+  pub number : result ≡ refusal_number r.result
+  pub count : n ≡ count_of r.result
+  pub buffer : after ≡ r.buffer

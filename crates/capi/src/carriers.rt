@@ -3,12 +3,12 @@ ghost use Rattle.std.specs.Prelude.{◌≡◌, length};
 ghost use Rattle.event.specs.Bytes.{placed};
 ghost use Rattle.carrier.specs.Carriers.{new_line, after_put, fetched, fetched_into};
 ghost use Rattle.smbus.specs.Seen.{addressed, seen_if};
-ghost use Rattle.capi.specs.Outcomes.{refusal_number, count_of};
+ghost use Rattle.crossing.specs.Outcomes.{refusal_number, count_of};
 ghost use Rattle.capi.specs.Packing.{sent, counted, copied_count, copied_into, delivered, delivered_into};
 
-use crate::outcome::hand_out;
 use carrier::mailbox::Mailbox;
 use carrier::{Carrier, deliver};
+use crossing::outcome::hand_out;
 use event::refusal::Refusal;
 use smbus::SmbusCarrier;
 
@@ -25,14 +25,16 @@ pub extern "C" fn fenduxi_packet_count(
     ensures number { result ≡ refusal_number (counted (addressed destination_address source_address source_id) destination_id message.now) }
     ensures count { count.new ≡ count_of (counted (addressed destination_address source_address source_id) destination_id message.now) }
 {
-    let carrier = laden(
+    match laden(
         destination_address,
         source_address,
         source_id,
         destination_id,
         message,
-    );
-    hand_out(carrier.map(|carrier| carrier.packet_count()), count)
+    ) {
+        Ok(carrier) => hand_out(Ok(carrier.packet_count()), count),
+        Err(refusal) => hand_out(Err(refusal), count),
+    }
 }
 
 /// Copies the packet of a number, from 0 on, to the front of the buffer. If there is none, or it is longer than the buffer, nothing

@@ -4,9 +4,6 @@
 
 mod carriers;
 mod checks;
-mod outcome;
 mod readers;
-mod rounds;
 mod runs;
-mod types;
 mod writers;

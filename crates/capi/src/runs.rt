@@ -1,20 +1,16 @@
-//! Runs of a writer and of an endpoint, for measurements: what stands for the whole run is made once.
-ghost use Rattle.std.specs.Prelude.{◌≡◌, length};
-ghost use Rattle.endpoint.specs.View.{as_endpoint, Turned};
-ghost use Rattle.marks.specs.View.{occurrences_in};
-ghost use Rattle.capi.specs.Crossing.{rows_told, chosen};
-ghost use Rattle.capi.specs.Runs.{RunsOn, at_start, run, writes, step as stepping, new_steps};
+//! Runs of a writer and of both ends, for measurements.
+ghost use Rattle.std.specs.Prelude.{◌≡◌};
+ghost use Rattle.measured.specs.Rounds.{new_rounds};
+ghost use Rattle.measured.specs.Runs.{at_start, writes, new_steps};
+ghost use Rattle.crossing.specs.Crossing.{rows_told, chosen};
+ghost use Rattle.capi.specs.Runs.{RunsOn, Ends};
 
-use crate::outcome::hand_out;
-use crate::types::Row;
-use crate::writers::{marked, table_of};
-use board::Board;
-use carrier::Carrier;
-use carrier::mailbox::Mailbox;
-use endpoint::types::Endpoint;
-use event::refusal::Refusal;
+use crossing::input::{marked, table_of};
+use crossing::outcome::hand_out;
+use crossing::types::Row;
 use marks::types::Marked;
-use wire::message::write_event;
+use measured::rounds::go_round;
+use measured::runs::{take_steps, write_all};
 
 /// Writes an event message to the front of the buffer for each transmission info, of one table board, of which those places are
 /// marked that are set in the mask. Told is what the last one counted.
@@ -57,54 +53,19 @@ pub extern "C" fn fenduxi_endpoint_steps(
     }
 }
 
-// Writes an event message for each transmission info.
-fn write_all<B: Board>(
+/// Makes a book by a sync that is answered so, and a mailbox. In each round the one message, for an even number, or the other is put
+/// and picked up, and the ack is answered so. Told is what the last pick-up counted.
+#[unsafe(no_mangle)]
+pub extern "C" fn fenduxi_book_rounds(
+    opening: &[u8],
+    even: &[u8],
+    odd: &[u8],
+    answer: &[u8],
+    numbers: &[u8],
     buffer: &mut [u8],
-    transmissions: &[u8],
-    marked: &Marked<'_, B>,
-) -> Result<usize, Refusal>
-    ensures { run result buffer.new ≡ writes (occurrences_in B.Board.told marked.now) transmissions.now (at_start buffer.old) }
+    count: &mut usize,
+) -> u8
+    ensures { Ends (new_rounds opening.now even.now odd.now answer.now numbers.now buffer.old) buffer.new count.new result }
 {
-    let mut last = Ok(0);
-    for transmission in transmissions {
-        last = write_event(buffer, *transmission, marked);
-    }
-    last
-}
-
-// Takes steps with a new endpoint.
-fn take_steps<B: Board>(
-    board: &B,
-    message: &[u8],
-    steps: &[u8],
-    buffer: &mut [u8],
-) -> Result<usize, Refusal>
-    ensures { run result buffer.new ≡ new_steps (B.Board.told board.now) message.now steps.now buffer.old }
-{
-    let mut endpoint = Endpoint::new();
-    let mut carrier = Mailbox::new();
-    let mut last = Ok(0);
-    for number in steps {
-        last = step(&mut endpoint, board, &mut carrier, *number, message, buffer);
-    }
-    last
-}
-
-// Takes one step.
-fn step<B: Board, C: Carrier>(
-    endpoint: &mut Endpoint,
-    board: &B,
-    carrier: &mut C,
-    number: u8,
-    message: &[u8],
-    buffer: &mut [u8],
-) -> Result<usize, Refusal>
-    ensures { Turned (stepping (B.Board.told board.now) message.now number (length buffer.old) (C.Carrier.carried carrier.old) (as_endpoint endpoint.old)) (as_endpoint endpoint.new) (C.Carrier.carried carrier.new) buffer.old buffer.new result }
-{
-    if number == 0 {
-        endpoint.tick(board, carrier, buffer)
-    } else {
-        let mut mask = 0;
-        endpoint.request(board, carrier, number, message, buffer, &mut mask)
-    }
+    hand_out(go_round(opening, even, odd, answer, numbers, buffer), count)
 }

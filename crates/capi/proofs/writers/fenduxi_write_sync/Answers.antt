@@ -3,9 +3,9 @@ use Rattle.std.proofs.lemmas.List.{take-map}
 use Rattle.event.specs.Outcomes.{Outcome, over_front}
 use Rattle.wire.specs.Writing.{writes_sync}
 use Rattle.wire.specs.declared.types.Item.{Item}
-use Rattle.capi.specs.Crossing.{item_told, items_told}
-use Rattle.capi.specs.Outcomes.{refusal_number, count_of}
-use Rattle.capi.proofs.Firsts.{sync_firsts}
+use Rattle.crossing.specs.Crossing.{item_told, items_told}
+use Rattle.crossing.specs.Outcomes.{refusal_number, count_of}
+use Rattle.crossing.proofs.Firsts.{sync_firsts}
 use Rattle.capi.proofs.writers.fenduxi_write_sync.Goals as goal
 
 pub returns : goal.returns

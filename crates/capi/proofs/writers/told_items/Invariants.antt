@@ -1,7 +1,0 @@
-use Rattle.std.proofs.Common.{◌≡◌, length, take}
-use Rattle.capi.specs.Crossing.{items_told}
-use Rattle.capi.proofs.writers.told_items.Given as goal
-
--- those so far are told
-abbrev pub invariant-loop-i : goal.invariant-loop-i
-invariant-loop-i l = (take l.i l.items ≡ items_told (take l.i l.switches)) × (length l.items ≡ 65)

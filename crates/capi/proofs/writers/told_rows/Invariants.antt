@@ -1,8 +1,0 @@
-use Rattle.std.proofs.Common.{◌≡◌, map, take}
-use Rattle.event.specs.View.{occurrence_of}
-use Rattle.capi.specs.Crossing.{row_kept}
-use Rattle.capi.proofs.writers.told_rows.Given as goal
-
--- those so far are told
-abbrev pub invariant-loop-row : goal.invariant-loop-row
-invariant-loop-row l = map occurrence_of l.told.items ≡ map row_kept (take l.row-index l.rows)

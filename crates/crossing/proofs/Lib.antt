@@ -1,0 +1,4 @@
+pub mod Firsts
+pub mod Marked
+pub mod Short
+pub mod Shown
