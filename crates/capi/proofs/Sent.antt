@@ -1,5 +1,5 @@
 -- A new SMBus carrier between two addresses, made or refused. Assumes nothing.
-use Rattle.std.proofs.Common.{◌≡◌, ℕ, Bool, true, false, cond, [], ◌∷◌, length, Ok, Err, Result, refl, sym, ap}
+use Rattle.std.proofs.Common.{◌≡◌, Bool, true, false, cond, [], ◌∷◌, length, Ok, Err, refl, sym}
 use Rattle.std.specs.Option.{unwrap_or}
 use Rattle.event.specs.Bytes.{Bytes}
 use Rattle.event.specs.declared.refusal.Refusal.{Refusal}

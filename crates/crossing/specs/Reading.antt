@@ -1,7 +1,6 @@
 -- What a reader shows to C. Assumes nothing.
 use Rattle.std.specs.Prelude.{◌≡◌, ℕ, ◌+◌, Bool, true, false, List, [], ◌∷◌, length, Ok, Err, Result, slice_set}
 use Rattle.event.specs.declared.refusal.Refusal.{Refusal}
-use Rattle.event.specs.Bytes.{Bytes}
 use Rattle.event.specs.Sources.{Occurrence}
 use Rattle.list.specs.Lists.{Told, these, overflow}
 use Rattle.wire.specs.Requests.{Sync, Ack}

@@ -4,7 +4,7 @@ use Rattle.event.specs.declared.refusal.Refusal.{Refusal}
 use Rattle.event.specs.Bytes.{Bytes}
 use Rattle.event.specs.Outcomes.{over_front}
 use Rattle.wire.specs.Requests.{Request, Ack, read_request, list_part}
-use Rattle.wire.specs.View.{Read, read_by, AckHasList}
+use Rattle.wire.specs.View.{read_by, AckHasList}
 use Rattle.wire.specs.declared.types.Message.{Message}
 use Rattle.crossing.specs.Outcomes.{refusal_number}
 use Rattle.capi.specs.Reading.{list_of}

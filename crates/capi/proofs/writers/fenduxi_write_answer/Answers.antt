@@ -1,4 +1,4 @@
-use Rattle.std.proofs.Common.{List, length, ap, subst}
+use Rattle.std.proofs.Common.{List, length, subst}
 use Rattle.event.specs.Outcomes.{Gives}
 use Rattle.event.specs.Sources.{Occurrence}
 use Rattle.board.specs.Boards.{Sources}
