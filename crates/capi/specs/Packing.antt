@@ -2,8 +2,9 @@
 use Rattle.std.specs.Prelude.{ℕ, cond, List, length, Ok, Err, Result}
 use Rattle.event.specs.declared.refusal.Refusal.{Refusal}
 use Rattle.event.specs.declared.refusal.Refusal.TheVariants.{AddressTooHigh}
-use Rattle.event.specs.Bytes.{Bytes, placed}
-use Rattle.carrier.specs.Carriers.{Line, new_line, after_put, fetched, fetched_into}
+use Rattle.event.specs.Bytes.{Bytes}
+use Rattle.event.specs.Outcomes.{Outcome, done, refusal}
+use Rattle.carrier.specs.Carriers.{Line, new_line, after_put, fetched}
 use Rattle.smbus.specs.declared.packet.Addresses.{Addresses}
 use Rattle.smbus.specs.Packets.{packets_on, chosen}
 use Rattle.smbus.specs.Seen.{Seen, seen_as, low_addresses}
@@ -32,18 +33,14 @@ counted a destination bytes = between a (length (packets_sent a destination byte
 abbrev pub packet_sent : Addresses → (destination : ℕ) → Bytes → (number room : ℕ) → Bytes
 packet_sent a destination bytes number room = chosen (packets_sent a destination bytes) number room
 
--- how many bytes of it were copied
-abbrev pub copied_count : Addresses → (destination : ℕ) → Bytes → (number room : ℕ) → Result ℕ Refusal
-copied_count a destination bytes number room = between a (length (packet_sent a destination bytes number room))
+-- an outcome, if both addresses are below 128
+abbrev pub between_low : Addresses → Outcome → Outcome
+between_low a o = cond (low_addresses a) o (refusal AddressTooHigh)
 
--- the buffer with it at its start
-abbrev pub copied_into : Addresses → (destination : ℕ) → Bytes → (number : ℕ) → Bytes → Bytes
-copied_into a destination bytes number buffer = cond (low_addresses a) (placed buffer 0 (packet_sent a destination bytes number (length buffer))) buffer
+-- that packet is copied
+abbrev pub packet_copied : Addresses → (destination : ℕ) → Bytes → (number room : ℕ) → Outcome
+packet_copied a destination bytes number room = between_low a (done (packet_sent a destination bytes number room))
 
--- what is fetched from the carrier
-abbrev pub delivered : Addresses → (destination : ℕ) → Bytes → (room : ℕ) → Result ℕ Refusal
-delivered a destination bytes room = cond (low_addresses a) (fetched (laid destination bytes) room) (Err AddressTooHigh)
-
--- the buffer after the fetch
-abbrev pub delivered_into : Addresses → (destination : ℕ) → Bytes → Bytes → Bytes
-delivered_into a destination bytes buffer = cond (low_addresses a) (fetched_into (laid destination bytes) buffer) buffer
+-- what lies there is fetched from the carrier
+abbrev pub delivered : Addresses → (destination : ℕ) → Bytes → (room : ℕ) → Outcome
+delivered a destination bytes room = between_low a (fetched room (laid destination bytes).message)

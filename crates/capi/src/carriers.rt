@@ -1,10 +1,9 @@
 //! The carriers.
 ghost use Rattle.std.specs.Prelude.{◌≡◌, length};
-ghost use Rattle.event.specs.Bytes.{placed};
-ghost use Rattle.carrier.specs.Carriers.{new_line, after_put, fetched, fetched_into};
+ghost use Rattle.carrier.specs.Carriers.{fetched};
 ghost use Rattle.smbus.specs.Seen.{addressed, seen_if};
-ghost use Rattle.crossing.specs.Outcomes.{refusal_number, count_of};
-ghost use Rattle.capi.specs.Packing.{sent, counted, copied_count, copied_into, delivered, delivered_into};
+ghost use Rattle.crossing.specs.Outcomes.{Leaves, refusal_number, count_of};
+ghost use Rattle.capi.specs.Packing.{laid, sent, counted, packet_copied, delivered};
 
 use carrier::mailbox::Mailbox;
 use carrier::{Carrier, deliver};
@@ -50,9 +49,7 @@ pub extern "C" fn fenduxi_packet(
     buffer: &mut [u8],
     count: &mut usize,
 ) -> u8
-    ensures number { result ≡ refusal_number (copied_count (addressed destination_address source_address source_id) destination_id message.now number (length buffer.old)) }
-    ensures count { count.new ≡ count_of (copied_count (addressed destination_address source_address source_id) destination_id message.now number (length buffer.old)) }
-    ensures buffer { buffer.new ≡ copied_into (addressed destination_address source_address source_id) destination_id message.now number buffer.old }
+    ensures { Leaves (packet_copied (addressed destination_address source_address source_id) destination_id message.now number (length buffer.old)) buffer.old buffer.new count.new result }
 {
     match laden(
         destination_address,
@@ -77,9 +74,7 @@ pub extern "C" fn fenduxi_smbus_deliver(
     buffer: &mut [u8],
     count: &mut usize,
 ) -> u8
-    ensures number { result ≡ refusal_number (delivered (addressed destination_address source_address source_id) destination_id message.now (length buffer.old)) }
-    ensures count { count.new ≡ count_of (delivered (addressed destination_address source_address source_id) destination_id message.now (length buffer.old)) }
-    ensures buffer { buffer.new ≡ delivered_into (addressed destination_address source_address source_id) destination_id message.now buffer.old }
+    ensures { Leaves (delivered (addressed destination_address source_address source_id) destination_id message.now (length buffer.old)) buffer.old buffer.new count.new result }
 {
     match SmbusCarrier::new(destination_address, source_address, source_id) {
         Ok(mut carrier) => hand_out(
@@ -98,9 +93,7 @@ pub extern "C" fn fenduxi_mailbox_deliver(
     buffer: &mut [u8],
     count: &mut usize,
 ) -> u8
-    ensures number { result ≡ refusal_number (fetched (after_put new_line destination_id message.now) (length buffer.old)) }
-    ensures count { count.new ≡ count_of (fetched (after_put new_line destination_id message.now) (length buffer.old)) }
-    ensures buffer { buffer.new ≡ fetched_into (after_put new_line destination_id message.now) buffer.old }
+    ensures { Leaves (fetched (length buffer.old) (laid destination_id message.now).message) buffer.old buffer.new count.new result }
 {
     let mut mailbox = Mailbox::new();
     hand_out(

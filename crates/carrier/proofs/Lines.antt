@@ -1,9 +1,10 @@
 -- What the calls of a carrier leave and give. Assumes nothing.
-use Rattle.std.proofs.Common.{◌≡◌, ℕ, ◌<◌, ◌≤◌, Bool, true, false, cond, leb, length, Some, None, Ok, Err, Option, refl, arith, le-leb, leb-true}
+use Rattle.std.proofs.Common.{◌≡◌, ℕ, ◌<◌, ◌≤◌, Bool, true, false, cond, leb, length, Some, None, Ok, Option, refl, arith, le-leb, leb-true}
 use Rattle.std.proofs.lemmas.Bool.{and_from, and_parts, cond-true}
 use Rattle.event.specs.Bytes.{Bytes}
+use Rattle.event.specs.Outcomes.{refusal}
 use Rattle.event.specs.declared.refusal.Refusal.TheVariants.{MessageBufferShort}
-use Rattle.carrier.specs.Carriers.{Message, Line, message_to, linked, message_fits, takes, after_put, count_of, fetched, lying_fits}
+use Rattle.carrier.specs.Carriers.{Message, Line, message_to, linked, message_fits, takes, after_put, lying_fits, lies, fetched}
 
 -- a message of 1 to 4,224 bytes fits
 pub fits : (bytes : Bytes) → 0 < length bytes → length bytes ≤ 4224 → message_fits bytes ≡ true
@@ -19,12 +20,12 @@ fits_length bytes e =
 pub put_taken : (line : Line) (destination : ℕ) (bytes : Bytes) → takes line bytes ≡ true → after_put line destination bytes ≡ linked line.link (Some (message_to destination bytes))
 put_taken line destination bytes e = cond-true (takes line bytes) (linked line.link (Some (message_to destination bytes))) line e
 
--- what is counted lies there, and there was room for it
-counted : (roomy : Bool) (lying : Option Message) (n : ℕ) → lying_fits lying ≡ true → cond roomy (count_of lying) (Err MessageBufferShort) ≡ Ok n → (roomy ≡ true) × (0 < n) × (n ≤ 4224)
+-- what is copied lies there, and there was room for it
+counted : (roomy : Bool) (lying : Option Message) (n : ℕ) → lying_fits lying ≡ true → (cond roomy (lies lying) (refusal MessageBufferShort)).result ≡ Ok n → (roomy ≡ true) × (0 < n) × (n ≤ 4224)
 counted false lying n f e = absurd (cc)
 counted true None n f e = absurd (cc)
 counted true (Some m) n f e = let l : length m.bytes ≡ n = cc in let h = fits_length m.bytes f in (refl, omega arith, omega arith)
 
 -- a fetch that counts bytes had room for them: 1 to 4,224, in a buffer of at least so many
-pub fetched-length : (line : Line) (room n : ℕ) → lying_fits line.message ≡ true → fetched line room ≡ Ok n → (0 < n) × (n ≤ 4224) × (4224 ≤ room)
-fetched-length line room n f e = let h = counted (leb 4224 room) line.message n f e in (h.1, h.2, leb-true 4224 room h.0)
+pub fetched-length : (lying : Option Message) (room n : ℕ) → lying_fits lying ≡ true → (fetched room lying).result ≡ Ok n → (0 < n) × (n ≤ 4224) × (4224 ≤ room)
+fetched-length lying room n f e = let h = counted (leb 4224 room) lying n f e in (h.1, h.2, leb-true 4224 room h.0)

@@ -1,7 +1,7 @@
 -- What a carrier means: a link, and at most one message on it. Assumes nothing.
-use Rattle.std.specs.Prelude.{ℕ, Bool, true, false, cond, ◌&&◌, [], ◌∷◌, length, Some, None, Ok, Err, Option, Result, nat_le}
-use Rattle.event.specs.Bytes.{Bytes, placed, within}
-use Rattle.event.specs.declared.refusal.Refusal.{Refusal}
+use Rattle.std.specs.Prelude.{ℕ, Bool, true, false, cond, ◌&&◌, [], ◌∷◌, length, Some, None, Option, nat_le}
+use Rattle.event.specs.Bytes.{Bytes, within}
+use Rattle.event.specs.Outcomes.{Outcome, done, refusal}
 use Rattle.event.specs.declared.refusal.Refusal.TheVariants.{MessageBufferShort, NoMessage}
 
 -- a message and the endpoint ID that it goes to
@@ -57,23 +57,14 @@ linked_up line = linked true line.message
 abbrev pub linked_down : Line → Line
 linked_down line = linked false None
 
--- how many bytes a fetch copies
-abbrev pub count_of : Option Message → Result ℕ Refusal
-count_of None = Err NoMessage
-count_of (Some m) = Ok (length m.bytes)
+-- what lies there, copied
+abbrev pub lies : Option Message → Outcome
+lies None = refusal NoMessage
+lies (Some m) = done m.bytes
 
--- a fetch into a buffer of so many bytes: is there room for any message, and does one lie there?
-abbrev pub fetched : Line → (room : ℕ) → Result ℕ Refusal
-fetched line room = cond (nat_le 4224 room) (count_of line.message) (Err MessageBufferShort)
-
--- the buffer with what lies there at its start
-abbrev pub copied : Option Message → Bytes → Bytes
-copied None buffer = buffer
-copied (Some m) buffer = placed buffer 0 m.bytes
-
--- the buffer after a fetch: the message from its start on, or as it was
-abbrev pub fetched_into : Line → Bytes → Bytes
-fetched_into line buffer = cond (nat_le 4224 (length buffer)) (copied line.message buffer) buffer
+-- a fetch copies what lies there and leaves it, if the buffer has room for any message
+abbrev pub fetched : (room : ℕ) → Option Message → Outcome
+fetched room message = cond (nat_le 4224 room) (lies message) (refusal MessageBufferShort)
 
 -- a message that is kept whole; without a byte nothing lies there
 abbrev pub kept : (destination : ℕ) → Bytes → Option Message

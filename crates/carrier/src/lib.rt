@@ -2,7 +2,8 @@
 #![tactic(auto)]
 
 ghost use Rattle.std.specs.Prelude.{◌≡◌, true, length};
-ghost use Rattle.carrier.specs.Carriers.{Line, takes, after_put, withdrawn, linked_up, linked_down, fetched, fetched_into, lying_fits, message_fits};
+ghost use Rattle.event.specs.Outcomes.{Gives};
+ghost use Rattle.carrier.specs.Carriers.{Line, takes, after_put, withdrawn, linked_up, linked_down, fetched, lying_fits, message_fits};
 
 use event::refusal::Refusal;
 
@@ -46,8 +47,7 @@ pub trait Carrier {
     /// Copies the message to the start of a buffer of at least 4,224 bytes, and says how long it is. It stays where it
     /// lies, and the rest of the buffer stays as it was.
     fn fetch(&self, buffer: &mut [u8]) -> Result<usize, Refusal>
-        ensures result { result ≡ fetched (carried self.now) (length buffer.old) }
-        ensures buffer { buffer.new ≡ fetched_into (carried self.now) buffer.old };
+        ensures { Gives (fetched (length buffer.old) (carried self.now).message) buffer.old buffer.new result };
 
     /// What lies there has 1 to 4,224 bytes.
     ghost fits: { (c : Self) → lying_fits (carried c).message ≡ true };
@@ -68,8 +68,7 @@ pub fn deliver<C: Carrier>(
     buffer: &mut [u8],
 ) -> Result<usize, Refusal>
     ensures after { C.Carrier.carried carrier.new ≡ after_put (C.Carrier.carried carrier.old) destination message.now }
-    ensures result { result ≡ fetched (after_put (C.Carrier.carried carrier.old) destination message.now) (length buffer.old) }
-    ensures buffer { buffer.new ≡ fetched_into (after_put (C.Carrier.carried carrier.old) destination message.now) buffer.old }
+    ensures gives { Gives (fetched (length buffer.old) (after_put (C.Carrier.carried carrier.old) destination message.now).message) buffer.old buffer.new result }
 {
     let _taken = carrier.put(destination, message);
     carrier.fetch(buffer)

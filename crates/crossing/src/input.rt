@@ -4,7 +4,8 @@ ghost use Rattle.event.specs.Identifiers.{bit};
 ghost use Rattle.event.specs.View.{occurrence_of};
 ghost use Rattle.event.specs.Sources.{ids};
 ghost use Rattle.board.specs.Boards.{at, reading_of};
-ghost use Rattle.board.specs.Tables.{table_sources, row_refusal, board_of, told_if};
+ghost use Rattle.board.specs.Tables.{row_refusal, board_of, told_if};
+ghost use Rattle.board.specs.Told.{table_told};
 ghost use Rattle.marks.specs.Marking.{occurrences, update};
 ghost use Rattle.marks.specs.View.{marks_of};
 ghost use Rattle.crossing.specs.Crossing.{items_told, row_kept, rows_told, all_short, chosen};
@@ -36,7 +37,7 @@ pub fn told_items(switches: &[Switch]) -> [Item; 65]
 
 /// The table board of these rows.
 pub fn table_of(rows: &[Row]) -> Result<TableBoard, Refusal>
-    ensures { told_if (λ b. table_sources b.rows) result ≡ board_of (row_refusal (rows_told rows.now)) (rows_told rows.now) }
+    ensures { told_if table_told result ≡ board_of (row_refusal (rows_told rows.now)) (rows_told rows.now) }
 {
     if rows.len() <= 64 && !all_short(rows) {
         return Err(Refusal::UnlawfulRow);

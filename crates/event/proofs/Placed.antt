@@ -28,6 +28,15 @@ placed-placed d at s t h =
     ∙ ap (paste d at (s ++ t)) (sym (length-append s t))
     ∙ sym (placed_paste d at (s ++ t))
 
+-- one part more behind what stands in front
+pub one_more : (d s t : List ℕ) (at : ℕ) → at ≡ length s → placed (over_front s d) at t ≡ over_front (s ++ t) d
+one_more d s t at e =
+    let k : at ≡ 0 + length s = omega arith in
+    ap (λ (l : List ℕ). placed l at t) (sym (placed-front d s))
+    ∙ ap (λ (m : ℕ). placed (placed d 0 s) m t) k
+    ∙ placed-placed d 0 s t (omega arith)
+    ∙ placed-front d (s ++ t)
+
 pub placed-none : (d : List ℕ) (at : ℕ) → placed d at [] ≡ d
 unfolding placed
 placed-none d at = rw add-zero (take-append-drop at d)

@@ -1,15 +1,13 @@
 -- The calls of a pair that are more than one call of a part. Assumes nothing.
-use Rattle.std.proofs.Common.{◌≡◌, ℕ, Bool, true, false, cond, [], length, Some, None, Ok, Err, Option, Result, sym, refl, ap, ◌∙◌, subst}
+use Rattle.std.proofs.Common.{◌≡◌, ℕ, Bool, true, false, cond, [], Some, None, Ok, Err, Option, Result, sym, refl, ap, ◌∙◌, subst}
 use Rattle.event.specs.declared.refusal.Refusal.{Refusal}
 use Rattle.event.specs.declared.refusal.Refusal.TheVariants.{NoneAwaited}
 use Rattle.event.specs.Bytes.{Bytes}
 use Rattle.event.specs.Outcomes.{refusal, over_front}
-use Rattle.carrier.specs.Carriers.{fetched, fetched_into}
 use Rattle.wire.specs.declared.types.Kind.{Kind}
 use Rattle.wire.specs.Messages.{Answer, read_answer}
 use Rattle.protocol.specs.Book.{Book, BookTurn, book_turn, awaits, answer_read}
-use Rattle.protocol.specs.Pair.{Pair, pair_of, Call, fetches}
-use Rattle.protocol.proofs.Fetches.{fetch-result, fetch-buffer}
+use Rattle.protocol.specs.Pair.{Pair, pair_of, Call}
 use Rattle.book.specs.declared.parts.Receipt.{Receipt}
 use Rattle.book.specs.Turns.{Writes, Does, with_receipt}
 use Rattle.book.specs.View.{handed}
@@ -57,13 +55,4 @@ answer_steps p (Some kind) bytes after buffer r s = record {
   pair = ap (pair_of p.endpoint p.line p.board) s.book;
   result = s.result;
   buffer = sym (ap (λ (written : Bytes). over_front written buffer) (answer_quiet (awaits kind p.book.phase) (read_answer bytes) kind p.book));
-}
-
--- a bare fetch
-pub fetch_steps : (p : Pair) (buffer filled : Bytes) (r : Result ℕ Refusal) → r ≡ fetched p.line (length buffer) → filled ≡ fetched_into p.line buffer
-    → Steps p (Some (fetches (length buffer))) p buffer filled (Some r)
-fetch_steps p buffer filled r e f = record {
-  pair = refl;
-  result = ap (λ (x : Result ℕ Refusal). Some x) (e ∙ sym (fetch-result (length buffer) p.line));
-  buffer = f ∙ sym (fetch-buffer buffer p.line);
 }

@@ -26,11 +26,11 @@ use Rattle.wire.specs.declared.types.Kind.{Kind}
 use Rattle.wire.specs.declared.types.Kind.TheVariants.{Sync as sync, Ack as ack}
 use Rattle.wire.specs.Messages.{Event, read_event, Answer, read_answer}
 use Rattle.wire.specs.Requests.{request_questions, request_refusal, request_message, request_of}
-use Rattle.carrier.specs.Carriers.{Message}
+use Rattle.carrier.specs.Carriers.{Message, lies}
 use Rattle.protocol.specs.declared.types.Phase.{Phase}
 use Rattle.protocol.specs.Endpoint.{change, changed, change_outcome, timed, tick, Turn, turn, refusal_of, requested}
 use Rattle.protocol.specs.Book.{blind, BookTurn, book_turn, awaits, sync_questions, ack_questions, writes, answer_read, remembers, hears, heard, found, finds, pick_up_questions, show_questions, reads, shown}
-use Rattle.protocol.specs.Pair.{Pair, pair_of, Step, changes, ticks, link_goes_up, link_goes_down, loses, writes_sync, writes_ack, requests, answers, gives_up, picks_up, fetches, shows, resets, acted, noted, rested, lies}
+use Rattle.protocol.specs.Pair.{Pair, pair_of, Step, changes, ticks, link_goes_up, link_goes_down, loses, writes_sync, writes_ack, requests, answers, gives_up, picks_up, fetches, shows, resets, acted, noted, rested}
 use Rattle.protocol.specs.Refused.{message_bytes, Leaves, RefusalsLeave}
 use Rattle.promises.proofs.Boards.{set_unlawful, set_past}
 use Rattle.promises.proofs.Lists.{never}

@@ -18,7 +18,7 @@ use Rattle.wire.specs.declared.types.Kind.{Kind}
 use Rattle.wire.specs.declared.types.Kind.TheVariants.{Sync as sync, Ack as ack}
 use Rattle.wire.specs.Messages.{Event, event_message, read_event, Answer, read_answer}
 use Rattle.wire.specs.Requests.{Request, Sync, Ack, request_of, request_message}
-use Rattle.carrier.specs.Carriers.{Message, message_to, Line, linked, takes}
+use Rattle.carrier.specs.Carriers.{Message, message_to, Line, linked, takes, lies}
 use Rattle.protocol.specs.declared.types.State.{State}
 use Rattle.protocol.specs.declared.types.State.TheVariants.{Off, Armed, Sending, Failed}
 use Rattle.protocol.specs.declared.types.Phase.{Phase}
@@ -97,7 +97,6 @@ use Rattle.protocol.specs.Pair.{
   noted,
   carried,
   rested,
-  lies,
   step,
   run,
 }

@@ -1,14 +1,13 @@
 -- An endpoint and a book, with one board and one carrier, and the calls of them. Assumes nothing.
-use Rattle.std.specs.Prelude.{ℕ, cond, List, [], ◌∷◌, Some, None, Option, nat_le}
+use Rattle.std.specs.Prelude.{ℕ, List, [], ◌∷◌}
 use Rattle.event.specs.declared.id.UniqueId.{UniqueId}
-use Rattle.event.specs.declared.refusal.Refusal.TheVariants.{MessageBufferShort, NoMessage}
 use Rattle.event.specs.Bytes.{Bytes}
-use Rattle.event.specs.Outcomes.{Outcome, done, refusal}
+use Rattle.event.specs.Outcomes.{Outcome, done}
 use Rattle.event.specs.Sources.{ids}
 use Rattle.board.specs.Boards.{Sources, at, after_set}
 use Rattle.wire.specs.declared.types.Item.{Item}
 use Rattle.wire.specs.declared.types.Kind.{Kind}
-use Rattle.carrier.specs.Carriers.{Message, Line, linked_up, linked_down, withdrawn}
+use Rattle.carrier.specs.Carriers.{Line, linked_up, linked_down, withdrawn, fetched}
 use Rattle.protocol.specs.Endpoint.{Endpoint, new_endpoint, change, change_outcome, tick, request, reset, Turn}
 use Rattle.protocol.specs.Book.{Book, blind, BookTurn, write_sync, write_ack, take_answer, give_up, pick_up, show}
 
@@ -76,15 +75,6 @@ carried line p = record { pair = pair_of p.endpoint line p.board p.book; outcome
 abbrev pub rested : Outcome → Pair → Step
 rested o p = record { pair = p; outcome = o }
 
--- what a fetch finds
-abbrev pub lies : Option Message → Outcome
-lies None = refusal NoMessage
-lies (Some m) = done m.bytes
-
--- a bare fetch copies the message and leaves it
-abbrev pub fetch : (room : ℕ) → Option Message → Outcome
-fetch room message = cond (nat_le 4224 room) (lies message) (refusal MessageBufferShort)
-
 -- a change of the source at a place
 abbrev pub change_at : (place : ℕ) → Bytes → Pair → Step
 change_at place r p = record {
@@ -105,7 +95,7 @@ step p (requests sender bytes room) = acted (request room sender bytes p.board p
 step p (answers kind bytes) = noted (take_answer kind bytes p.book) p
 step p (gives_up kind) = noted (give_up kind p.book) p
 step p (picks_up room) = noted (pick_up room p.line.message p.book) p
-step p (fetches room) = rested (fetch room p.line.message) p
+step p (fetches room) = rested (fetched room p.line.message) p
 step p (shows id room) = rested (show room id p.book) p
 step p resets = acted (reset p.line p.endpoint) p
 

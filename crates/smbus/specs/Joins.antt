@@ -7,7 +7,8 @@ use Rattle.std.proofs.lemmas.List.{take_at, drop_at, length_push, take_more, map
 use Rattle.std.proofs.lemmas.List.FromFn.{map-range_with_len_more}
 use Rattle.crc.specs.Crc.{crc8}
 use Rattle.event.specs.Bytes.{Bytes, placed}
-use Rattle.event.proofs.Placed.{placed_copy, placed-placed}
+use Rattle.event.specs.Outcomes.{over_front}
+use Rattle.event.proofs.Placed.{placed_copy, one_more}
 use Rattle.carrier.specs.Carriers.{Message}
 use Rattle.smbus.specs.declared.packet.Addresses.{Addresses}
 use Rattle.smbus.specs.declared.packet.Packet.{Packet}
@@ -59,12 +60,8 @@ payloads_join a m =
     ∙ take_all (64 * packet_count (length m.bytes)) m.bytes (omega arith)
 
 -- a copy behind what stands at the start of a buffer
-pub copied_more : (before buffer front part ys : Bytes) (at k : ℕ) → buffer ≡ placed before 0 front → at ≡ length front → ys ≡ part → k ≡ length part → put_mid at k buffer ys ≡ placed before 0 (front ++ part)
-copied_more before buffer front part ys at k e n g l =
-    placed_copy buffer at k ys part g l
-    ∙ ap (λ (b : Bytes). placed b at part) e
-    ∙ ap (λ (i : ℕ). placed (placed before 0 front) i part) (n ∙ sym (zero-add (length front)))
-    ∙ placed-placed before 0 front part (omega arith)
+pub copied_more : (before buffer front part ys : Bytes) (at k : ℕ) → buffer ≡ over_front front before → at ≡ length front → ys ≡ part → k ≡ length part → put_mid at k buffer ys ≡ over_front (front ++ part) before
+copied_more before buffer front part ys at k e n g l = placed_copy buffer at k ys part g l ∙ ap (λ (b : Bytes). placed b at part) e ∙ one_more before front part at n
 
 -- one packet more of a row
 pub stored_more : (row : List Packet) (i : ℕ) (p : Packet) → i < length row → p ≡ slice_index_or row i p → map held (take (i + 1) row) ≡ map held (take i row) ++ (held p ∷ [])

@@ -1,6 +1,6 @@
 //! From a message to its packets and back.
 ghost use Rattle.std.specs.Prelude.{◌≡◌, ◌+◌, ◌*◌, ◌<◌, ◌≤◌, ◌++◌, map, length};
-ghost use Rattle.event.specs.Bytes.{placed};
+ghost use Rattle.event.specs.Outcomes.{over_front};
 ghost use Rattle.carrier.specs.Carriers.{message_to};
 ghost use Rattle.smbus.specs.Packets.{flags as flags_of, header as header_of, checked, packets as packets_of, payload_of as payload_in, payloads};
 ghost use Rattle.smbus.specs.Stored.{held, stored};
@@ -100,7 +100,7 @@ pub(crate) fn split(
 pub(crate) fn join(packets: &[Packet], buffer: &mut [u8]) -> usize
     requires { (length packets.now ≤ 66) × (4224 ≤ length buffer.old) }
     ensures count { result ≡ length (payloads (map held packets.now)) }
-    ensures buffer { buffer.new ≡ placed buffer.old 0 (payloads (map held packets.now)) }
+    ensures buffer { buffer.new ≡ over_front (payloads (map held packets.now)) buffer.old }
 {
     // The place is kept here: of what an `iter_mut` in a `zip` wrote, a proof knows nothing.
     let mut at = 0;

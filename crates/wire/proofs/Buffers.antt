@@ -1,5 +1,5 @@
 -- What a buffer holds after the parts of a message were written one after the other. Assumes nothing.
-use Rattle.std.proofs.Common.{◌≡◌, ℕ, ◌+◌, ◌-◌, Bool, true, false, cond, leb, [], ◌∷◌, ◌++◌, length, take, drop, Some, None, Option, Result, sym, ap, ◌∙◌, arith}
+use Rattle.std.proofs.Common.{◌≡◌, ℕ, ◌+◌, ◌-◌, Bool, true, false, cond, leb, [], ◌∷◌, ◌++◌, length, take, drop, Some, None, Option, Result, sym, ap, ◌∙◌}
 use borrow.Rule.Slice.PartMut.{put_mid}
 use Rattle.std.specs.Option.{ok_or}
 use Rattle.std.proofs.lemmas.List.{take_at, length-append}
@@ -8,19 +8,10 @@ use Rattle.event.specs.Bytes.{Bytes, placed, le32}
 use Rattle.event.specs.declared.refusal.Refusal.{Refusal}
 use Rattle.event.specs.Refusals.{ask, first_no}
 use Rattle.event.specs.Outcomes.{over_front, Gives, unless}
-use Rattle.event.proofs.Placed.{placed-front, placed-placed}
+use Rattle.event.proofs.Placed.{placed-front, one_more}
 use Rattle.marks.specs.Written.{Written}
 use Rattle.marks.proofs.Parts.{part_placed}
 use Rattle.wire.specs.Checks.{checked}
-
--- one part more behind what was written
-pub one_more : (d s t : Bytes) (at : ℕ) → at ≡ length s → placed (over_front s d) at t ≡ over_front (s ++ t) d
-one_more d s t at e =
-    let k : at ≡ 0 + length s = omega arith in
-    ap (λ (l : Bytes). placed l at t) (sym (placed-front d s))
-    ∙ ap (λ (m : ℕ). placed (placed d 0 s) m t) k
-    ∙ placed-placed d 0 s t (omega arith)
-    ∙ placed-front d (s ++ t)
 
 -- the front of what was written
 pub front_of : (d s : Bytes) (n : ℕ) → n ≡ length s → take n (over_front s d) ≡ s

@@ -1,13 +1,10 @@
 use Rattle.std.proofs.Common.{◌+◌, drop, ap, ◌∙◌}
 use Rattle.event.specs.Bytes.{Bytes}
-use Rattle.carrier.specs.Carriers.{Line, linked, kept, after_put}
-use Rattle.carrier.specs.declared.mailbox.Mailbox.{Mailbox}
+use Rattle.carrier.specs.Carriers.{after_put}
+use Rattle.carrier.specs.Mailboxes.{line_of}
 use Rattle.measured.specs.Rounds.{Round, round, rounds, picked}
 use Rattle.measured.proofs.Calls.{round_more, round_end}
 use Rattle.measured.proofs.rounds.go_round.Goals as goal
-
-abbrev line_of : Mailbox → Line
-line_of m = linked m.up (kept m.destination m.bytes.items)
 
 pub loop-number-preserved : goal.loop-number-preserved
 loop-number-preserved c =

@@ -1,13 +1,9 @@
 use Rattle.std.proofs.Common.{◌+◌, get_or, length, drop, ◌∙◌}
-use Rattle.carrier.specs.Carriers.{Line, linked, kept}
-use Rattle.carrier.specs.declared.mailbox.Mailbox.{Mailbox}
+use Rattle.carrier.specs.Mailboxes.{line_of}
 use Rattle.endpoint.specs.View.{as_endpoint}
 use Rattle.measured.specs.Runs.{run, step}
 use Rattle.measured.proofs.Calls.{turned, step_more, step_end}
 use Rattle.measured.proofs.runs.take_steps.Goals as goal
-
-abbrev line_of : Mailbox → Line
-line_of m = linked m.up (kept m.destination m.bytes.items)
 
 pub loop-number-preserved : goal.loop-number-preserved
 loop-number-preserved g c =

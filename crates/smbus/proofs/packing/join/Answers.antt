@@ -1,6 +1,6 @@
 use Rattle.std.proofs.Common.{◌≡◌, ◌+◌, ◌++◌, map, length, take, sym, refl, ap, ◌∙◌, arith, length-append}
-use Rattle.event.specs.Bytes.{Bytes, placed}
-use Rattle.event.proofs.Placed.{placed-none}
+use Rattle.event.specs.Bytes.{Bytes}
+use Rattle.event.specs.Outcomes.{over_front}
 use Rattle.smbus.specs.Packets.{payloads}
 use Rattle.smbus.specs.Stored.{held}
 use Rattle.smbus.specs.Joins.{copied_more, payloads_push, stored_more}
@@ -8,7 +8,7 @@ use Rattle.smbus.proofs.packing.join.Goals as goal
 
 pub loop-packet-init : goal.loop-packet-init
 unfolding payloads
-loop-packet-init c = (refl, sym (placed-none c.args.buffer.now 0), omega arith)
+loop-packet-init c = (refl, refl, omega arith)
 
 pub loop-packet-preserved : goal.loop-packet-preserved
 loop-packet-preserved c =
@@ -24,6 +24,6 @@ loop-packet-preserved c =
       omega (arith, ap length more, length-append front part),
       copied_more c.args.buffer.now c.loop-packet.buffer front part c.copy_from_slice.new.self c.loop-packet.at _
           c.loop-packet.invariant.1 c.loop-packet.invariant.0 c.copy_from_slice.ensures.after (omega arith)
-          ∙ ap (placed c.args.buffer.now 0) (sym more),
+          ∙ ap (λ (b : Bytes). over_front b c.args.buffer.now) (sym more),
       omega arith,
     )

@@ -1,5 +1,5 @@
 use Rattle.std.proofs.Common.{◌≡◌, ◌*◌, ◌≤◌, map, length, take}
-use Rattle.event.specs.Bytes.{placed}
+use Rattle.event.specs.Outcomes.{over_front}
 use Rattle.smbus.specs.Packets.{payloads}
 use Rattle.smbus.specs.Stored.{held}
 use Rattle.smbus.proofs.packing.join.Given as goal
@@ -7,5 +7,5 @@ use Rattle.smbus.proofs.packing.join.Given as goal
 abbrev pub invariant-loop-packet : goal.invariant-loop-packet
 invariant-loop-packet l =
     (l.at ≡ length (payloads (map held (take l.packet-index l.packets))))
-    × (l.buffer ≡ placed l.initial.buffer 0 (payloads (map held (take l.packet-index l.packets))))
+    × (l.buffer ≡ over_front (payloads (map held (take l.packet-index l.packets))) l.initial.buffer)
     × (l.at ≤ 64 * l.packet-index)

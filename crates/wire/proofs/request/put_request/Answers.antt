@@ -5,8 +5,8 @@ use Rattle.event.specs.Bytes.{Bytes, placed, le16, le32}
 use Rattle.event.specs.Outcomes.{over_front}
 use Rattle.wire.specs.Checks.{checked}
 use Rattle.wire.specs.Requests.{items_bytes, enable_list, request_head, request_message}
-use Rattle.event.proofs.Placed.{placed-front}
-use Rattle.wire.proofs.Buffers.{one_more, with_check, length-checked}
+use Rattle.event.proofs.Placed.{placed-front, one_more}
+use Rattle.wire.proofs.Buffers.{with_check, length-checked}
 use Rattle.wire.proofs.ItemLists.{length-items}
 use Rattle.wire.proofs.request.put_request.Goals as goal
 
