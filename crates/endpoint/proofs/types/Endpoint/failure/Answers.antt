@@ -1,0 +1,5 @@
+use Rattle.std.proofs.Common.{rules}
+use Rattle.endpoint.proofs.types.Endpoint.failure.Goals as goal
+
+pub returns : goal.returns
+returns c = search rules

@@ -1,0 +1,5 @@
+use Rattle.std.proofs.Common.{rules}
+use Rattle.session.proofs.boards.NamedBoardBoard.count.Goals as goal
+
+pub returns-in-Table : goal.returns-in-Table
+returns-in-Table c = search rules

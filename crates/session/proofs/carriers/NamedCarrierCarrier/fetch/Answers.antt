@@ -1,0 +1,5 @@
+use Rattle.std.proofs.Common.{rules}
+use Rattle.session.proofs.carriers.NamedCarrierCarrier.fetch.Goals as goal
+
+pub returns-in-Smbus : goal.returns-in-Smbus
+returns-in-Smbus c = search rules
