@@ -1,7 +1,7 @@
 //! The published vectors: for CRC-32C those of RFC 3720, appendix B.4, and for both checks that of the text 123456789 and a few more.
 use crate::vector::{Check, Vector};
 
-pub const VECTORS: [Vector; 12] = [
+pub(crate) const VECTORS: [Vector; 12] = [
     Vector {
         check: Check::Crc32c,
         name: "32 zero bytes",

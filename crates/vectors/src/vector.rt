@@ -8,24 +8,24 @@ use std::io;
 /// The kind of a check.
 // An enum, and not a function to call: the contracts and the printed names tell the two apart.
 #[derive(Clone, Copy, Drop)]
-pub enum Check {
+pub(crate) enum Check {
     Crc32c,
     Crc8,
 }
 
 /// Some bytes, and the check that is published for them.
 #[derive(Drop)]
-pub struct Vector {
-    pub check: Check,
+pub(crate) struct Vector {
+    pub(crate) check: Check,
     /// What the bytes are, in words.
-    pub name: &'static str,
-    pub bytes: &'static [u8],
-    pub expected: u32,
+    pub(crate) name: &'static str,
+    pub(crate) bytes: &'static [u8],
+    pub(crate) expected: u32,
 }
 
 impl Vector {
     /// The check of the bytes, as this code computes it.
-    pub fn computed(&self) -> u32
+    pub(crate) fn computed(&self) -> u32
         ensures { result ≡ check_of self.now.check self.now.bytes.now }
     {
         match self.check {
@@ -35,14 +35,14 @@ impl Vector {
     }
 
     /// Whether the check of the bytes is the published one.
-    pub fn agrees(&self) -> bool
+    pub(crate) fn agrees(&self) -> bool
         ensures { Decides result (check_of self.now.check self.now.bytes.now ≡ self.now.expected) }
     {
         self.computed() == self.expected
     }
 
     /// Prints the published check, and whether it agrees.
-    pub fn report(&self, rt: &impl Print) -> io::Result<()> {
+    pub(crate) fn report(&self, rt: &impl Print) -> io::Result<()> {
         let (kind, width) = match self.check {
             Check::Crc32c => ("CRC-32C", 8usize),
             Check::Crc8 => ("CRC-8", 2),
