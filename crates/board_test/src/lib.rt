@@ -1,5 +1,0 @@
-//! Sets on each board, and rows that make no board.
-#![tactic(auto)]
-
-#[cfg(test)]
-mod tests;
