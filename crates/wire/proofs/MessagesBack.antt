@@ -93,6 +93,11 @@ only-answer bytes a e = go (read_framed (answer_head (slot_of bytes)) bytes) ref
 
 -- HOW THE CODE READS A FRAME
 
+pub answer_framed : (bytes : Bytes) (slot : Bool) (head : Bytes) (o : Option Listing) → slot ≡ slot_of bytes → head ≡ answer_head slot → o ≡ read_framed head bytes →
+    read_answer bytes ≡ answer_of slot o
+unfolding read_answer
+answer_framed bytes slot head o e f g = cc
+
 -- no bytes are no list
 no_list : read_list [] ≡ None
 unfolding read_list list_bytes
