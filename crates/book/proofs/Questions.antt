@@ -1,12 +1,13 @@
 -- Questions that were asked before others, and requests that they refuse. Assumes nothing.
-use Rattle.std.proofs.Common.{◌≡◌, Bool, true, false, List, [], ◌∷◌, ◌++◌, Some, None, Ok, Err, Option, sym, refl, ap}
+use Rattle.std.proofs.Common.{◌≡◌, ℕ, Bool, true, false, List, [], ◌∷◌, ◌++◌, Some, None, Ok, Err, Option, sym, refl, ap}
 use Rattle.event.specs.declared.refusal.Refusal.{Refusal}
 use Rattle.event.specs.Bytes.{Bytes}
 use Rattle.event.specs.Outcomes.{Gives, unless}
 use Rattle.event.specs.Refusals.{Question, ask, first_no}
 use Rattle.board.specs.Changes.{handed_back}
 use Rattle.wire.specs.declared.types.Kind.{Kind}
-use Rattle.protocol.specs.Book.{Book, writes}
+use Rattle.protocol.specs.declared.types.Phase.TheVariants.{Waiting}
+use Rattle.protocol.specs.Book.{Book, in_phase, writes}
 use Rattle.book.specs.Turns.{Writes}
 
 -- a call that is not refused was asked nothing that is answered no
@@ -57,3 +58,9 @@ writer_refuses kind (Some s) bytes k before after r g =
     let e = g.result in
     let same : r ≡ s = cc in
     record { book = refl; result = ap (λ (x : Refusal). Err x) same; buffer = g.buffer }
+
+-- a request that is written
+pub written : (kind : Kind) (q : Option Refusal) (bytes : Bytes) (k later : Book) (before after : Bytes) (n : ℕ)
+    → later ≡ in_phase (Waiting kind) k → Gives (unless q bytes) before after (Ok n) → Writes kind (writes q kind bytes k) later before after (Ok (n, record { kind = kind }))
+written kind None bytes k later before after n waits g = let e = g.result in record { book = waits; result = cc; buffer = g.buffer }
+written kind (Some s) bytes k later before after n waits g = let e = g.result in absurd (cc)
