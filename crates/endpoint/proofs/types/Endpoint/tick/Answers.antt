@@ -1,0 +1,5 @@
+use Rattle.std.proofs.Common.{rules}
+use Rattle.endpoint.proofs.types.Endpoint.tick.Goals as goal
+
+pub returns-in-Again : goal.returns-in-Again
+returns-in-Again g c = search rules
