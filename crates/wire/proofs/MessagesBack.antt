@@ -93,6 +93,7 @@ only-answer bytes a e = go (read_framed (answer_head (slot_of bytes)) bytes) ref
 
 -- HOW THE CODE READS A FRAME
 
+-- an answer is read by its slot, its head, and what stands in the frame behind that
 pub answer_framed : (bytes : Bytes) (slot : Bool) (head : Bytes) (o : Option Listing) → slot ≡ slot_of bytes → head ≡ answer_head slot → o ≡ read_framed head bytes →
     read_answer bytes ≡ answer_of slot o
 unfolding read_answer
