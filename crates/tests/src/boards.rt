@@ -19,47 +19,50 @@ fn first<B: Board>(board: &B, place: usize) -> Option<u8> {
     board.reading(place)?.as_bytes().first().copied()
 }
 
-// A vendor event of a namespace, with an empty reading.
-fn vendor(namespace: u32) -> Occurrence {
+// A source of a vendor's event in a namespace of this number, with a reading of so many bytes.
+pub fn vendor(number: u32, length: usize) -> Occurrence {
+    let bytes = [0xA5; 64];
+    let reading = Reading::new(&bytes[0..length.min(64)]).unwrap_or_default();
     let id = UniqueId {
         identifier: 0xC0,
         scope: 0,
-        info: namespace,
+        info: number,
     };
-    Occurrence {
-        id,
-        reading: Reading::empty(),
-    }
+    Occurrence { id, reading }
 }
 
 #[test]
 fn sets_on_a_drive_board(rt: HostRuntime) {
     let mut board = DriveBoard::new(7);
-    assert_eq!(rt; board.count(), 12);
-    assert_eq!(rt; refused(try_set(&mut board, 6, &[0x1E])), None);
-    assert_eq!(rt; first(&board, 6), Some(0x1E));
-    assert_eq!(rt; first(&board, 7), Some(0));
-    assert_eq!(rt; refused(try_set(&mut board, 12, &[0])), Some(11));
-    assert_eq!(rt; refused(try_set(&mut board, 2, &[8])), Some(12));
-    assert_eq!(rt; refused(try_set(&mut board, 4, &[])), None);
+    assert!(rt; board.count() == 12);
+    assert!(rt; refused(try_set(&mut board, 6, &[0x1E])) == None);
+    assert!(rt; [first(&board, 6), first(&board, 7)] == [Some(0x1E), Some(0)]);
+    let numbers = [
+        refused(try_set(&mut board, 12, &[0])),
+        refused(try_set(&mut board, 2, &[8])),
+        refused(try_set(&mut board, 4, &[])),
+    ];
+    assert!(rt; numbers == [Some(11), Some(12), None]);
 }
 
 #[test]
 fn sets_on_a_table_board(rt: HostRuntime) -> Result<(), Fail> {
-    let mut board = TableBoard::new(&[vendor(1), vendor(2)])?;
-    assert_eq!(rt; board.count(), 2);
-    assert_eq!(rt; refused(try_set(&mut board, 1, &[5, 6])), None);
-    assert_eq!(rt; first(&board, 1), Some(5));
-    assert_eq!(rt; first(&board, 0), None);
-    assert_eq!(rt; refused(try_set(&mut board, 2, &[5])), Some(11));
-    assert_eq!(rt; refused(try_set(&mut board, 1, &[0; 65])), Some(12));
+    let mut board = TableBoard::new(&[vendor(1, 0), vendor(2, 0)])?;
+    assert!(rt; board.count() == 2);
+    assert!(rt; refused(try_set(&mut board, 1, &[5, 6])) == None);
+    assert!(rt; [first(&board, 1), first(&board, 0)] == [Some(5), None]);
+    let numbers = [
+        refused(try_set(&mut board, 2, &[5])),
+        refused(try_set(&mut board, 1, &[0; 65])),
+    ];
+    assert!(rt; numbers == [Some(11), Some(12)]);
     Ok(())
 }
 
 #[test]
 fn rows_that_are_refused(rt: HostRuntime) {
-    assert_eq!(rt; refused(TableBoard::new(&[])), Some(13));
-    assert_eq!(rt; refused(TableBoard::new(&[vendor(0); 65])), Some(13));
+    assert!(rt; refused(TableBoard::new(&[])) == Some(13));
+    assert!(rt; refused(TableBoard::new(&[vendor(0, 0); 65])) == Some(13));
     let unlawful = Occurrence {
         id: UniqueId {
             identifier: 0x0C,
@@ -68,10 +71,7 @@ fn rows_that_are_refused(rt: HostRuntime) {
         },
         reading: Reading::empty(),
     };
-    assert_eq!(rt;
-        refused(TableBoard::new(&[vendor(1), vendor(1), unlawful])),
-        Some(14)
-    );
-    assert_eq!(rt; refused(TableBoard::new(&[vendor(1), vendor(1)])), Some(15));
-    assert_eq!(rt; refused(TableBoard::new(&[vendor(1), vendor(2)])), None);
+    assert!(rt; refused(TableBoard::new(&[vendor(1, 0), vendor(1, 0), unlawful])) == Some(14));
+    assert!(rt; refused(TableBoard::new(&[vendor(1, 0), vendor(1, 0)])) == Some(15));
+    assert!(rt; refused(TableBoard::new(&[vendor(1, 0), vendor(2, 0)])) == None);
 }

@@ -286,6 +286,11 @@ const GOOD: [Good; 20] = [
     },
 ];
 
+// The command of a line; none if it is blank or bad.
+fn command(heap: Global, line: &[u8]) -> Option<Command> {
+    parse(heap, line).ok()?
+}
+
 // What is wrong with a line; none if nothing is.
 fn fault(heap: Global, line: &[u8]) -> Option<Fault> {
     match parse(heap, line) {
@@ -294,26 +299,26 @@ fn fault(heap: Global, line: &[u8]) -> Option<Fault> {
     }
 }
 
+// A call: its action, how the record repeats it, and the length of its buffer; none if the line is no call.
+fn call(heap: Global, line: &[u8]) -> Option<(Action, Vec<u8>, usize)> {
+    match command(heap, line)? {
+        Command::Call { action, text, room } => Some((action, text, room)),
+        _ => None,
+    }
+}
+
 // Whether a line is this call.
 fn is_call(heap: Global, good: &Good) -> bool {
-    match parse(heap, good.line) {
-        Ok(
-            Some(
-                Command::Call {
-                    action: _,
-                    text,
-                    room,
-                },
-            ),
-        ) => { text.as_slice() == good.text && room == good.room }
-        _ => false,
+    match call(heap, good.line) {
+        Some((_, text, room)) => text.as_slice() == good.text && room == good.room,
+        None => false,
     }
 }
 
 #[test]
 fn bad_lines(rt: HostRuntime) {
     for (i, bad) in BAD.iter().enumerate() {
-        assert_eq!(rt; fault(rt.alloc(), bad.line), Some(bad.fault), "{}", i);
+        assert!(rt; fault(rt.alloc(), bad.line) == Some(bad.fault), "{}", i);
     }
 }
 
@@ -336,79 +341,71 @@ fn blank_lines(rt: HostRuntime) -> Result<(), Fail> {
     Ok(())
 }
 
-#[test]
-fn a_row(rt: HostRuntime) -> Result<(), Fail> {
-    match parse(rt.alloc(), b"row 0c0 00 0000000001 Aa01fF")? {
-        Some(Command::Row { id, reading }) => {
-            let expected = UniqueId {
-                identifier: 0xC0,
-                scope: 0,
-                info: 1,
-            };
-            assert!(rt; id == expected);
-            assert!(rt; reading.as_slice() == [0xAA, 0x01, 0xFF].as_slice());
-            Ok(())
-        }
-        _ => Err(Fail::new("no row")),
+// The ID and the reading of a row, if the reading has three bytes; none if the line is no such row.
+fn row(heap: Global, line: &[u8]) -> Option<(UniqueId, [u8; 3])> {
+    match command(heap, line)? {
+        Command::Row { id, reading } => Some((id, reading.as_slice().try_into().ok()?)),
+        _ => None,
     }
 }
 
 #[test]
-fn boards(rt: HostRuntime) -> Result<(), Fail> {
-    match parse(rt.alloc(), b"board drive fFfE")? {
-        Some(Command::DriveBoard { controller }) => assert_eq!(rt; controller, 0xFFFE),
-        _ => return Err(Fail::new("no drive board")),
-    }
-    match parse(rt.alloc(), b"board table")? {
-        Some(Command::TableBoard) => Ok(()),
-        _ => Err(Fail::new("no table board")),
+fn a_row(rt: HostRuntime) {
+    let id = UniqueId {
+        identifier: 0xC0,
+        scope: 0,
+        info: 1,
+    };
+    assert!(rt; row(rt.alloc(), b"row 0c0 00 0000000001 Aa01fF") == Some((id, [0xAA, 0x01, 0xFF])));
+}
+
+// The controller ID of the drive board, or none for the table board; none at all if the line is no board.
+fn board(heap: Global, line: &[u8]) -> Option<Option<u16>> {
+    match command(heap, line)? {
+        Command::DriveBoard { controller } => Some(Some(controller)),
+        Command::TableBoard => Some(None),
+        _ => None,
     }
 }
 
 #[test]
-fn carriers(rt: HostRuntime) -> Result<(), Fail> {
-    match parse(rt.alloc(), b"carrier smbus 3A 20 ff")? {
-        Some(
-            Command::Smbus {
-                destination,
-                source,
-                id,
-            },
-        ) => {
-            assert_eq!(rt; destination, 0x3A);
-            assert_eq!(rt; source, 0x20);
-            assert_eq!(rt; id, 0xFF);
-        }
-        _ => return Err(Fail::new("no SMBus carrier")),
+fn boards(rt: HostRuntime) {
+    assert!(rt; board(rt.alloc(), b"board drive fFfE") == Some(Some(0xFFFE)));
+    assert!(rt; board(rt.alloc(), b"board table") == Some(None));
+}
+
+// The three numbers of the SMBus carrier, or none for the mailbox; none at all if the line is no carrier.
+fn carrier(heap: Global, line: &[u8]) -> Option<Option<[u8; 3]>> {
+    match command(heap, line)? {
+        Command::Smbus {
+            destination,
+            source,
+            id,
+        } => Some(Some([destination, source, id])),
+        Command::Mailbox => Some(None),
+        _ => None,
     }
-    match parse(rt.alloc(), b"carrier mailbox")? {
-        Some(Command::Mailbox) => Ok(()),
-        _ => Err(Fail::new("no mailbox")),
-    }
+}
+
+#[test]
+fn carriers(rt: HostRuntime) {
+    let numbers = carrier(rt.alloc(), b"carrier smbus 3A 20 ff");
+    assert!(rt; numbers == Some(Some([0x3A, 0x20, 0xFF])));
+    assert!(rt; carrier(rt.alloc(), b"carrier mailbox") == Some(None));
 }
 
 // The action of a line; none if it is no call.
 fn action(heap: Global, line: &[u8]) -> Option<Action> {
-    match parse(heap, line) {
-        Ok(
-            Some(
-                Command::Call {
-                    action,
-                    text: _,
-                    room: _,
-                },
-            ),
-        ) => Some(action),
-        _ => None,
-    }
+    let (action, ..) = call(heap, line)?;
+    Some(action)
 }
 
 #[test]
 fn a_sync(rt: HostRuntime) -> Result<(), Fail> {
     match action(rt.alloc(), b"sync 020 5 06+,c1-,6-") {
         Some(Action::Sync { delays, items }) => {
-            assert_eq!(rt; delays.first.0, 20);
-            assert_eq!(rt; delays.retry.0, 5);
+            assert!(rt; delays.first.0 == 20);
+            assert!(rt; delays.retry.0 == 5);
             let expected = [
                 Item {
                     identifier: 6,
@@ -430,50 +427,43 @@ fn a_sync(rt: HostRuntime) -> Result<(), Fail> {
     }
 }
 
-#[test]
-fn messages(rt: HostRuntime) -> Result<(), Fail> {
-    match action(rt.alloc(), b"hand 1f -") {
-        Some(
-            Action::Hand {
-                sender,
-                message: Some(bytes),
-            },
-        ) => {
-            assert_eq!(rt; sender, 0x1F);
-            assert_eq!(rt; bytes.len(), 0);
-        }
-        _ => return Err(Fail::new("no message to the endpoint")),
+// The message of a line, and its sender if the endpoint is handed it; none if the line hands and takes none.
+fn message(heap: Global, line: &[u8]) -> Option<(Option<u8>, Option<Vec<u8>>)> {
+    match action(heap, line)? {
+        Action::Hand { sender, message } => Some((Some(sender), message)),
+        Action::Take { message } => Some((None, message)),
+        _ => None,
     }
-    match action(rt.alloc(), b"take 84") {
-        Some(
-            Action::Take {
-                message: Some(bytes),
-            },
-        ) => assert!(rt; bytes.as_slice() == [0x84].as_slice()),
-        _ => return Err(Fail::new("no message to the book")),
-    }
-    match action(rt.alloc(), b"take") {
-        Some(Action::Take { message: None }) => Ok(()),
-        _ => Err(Fail::new("a message from nowhere")),
+}
+
+// Whether a line hands on this message, to the endpoint if there is a sender and else to the book.
+fn is_message(heap: Global, line: &[u8], sender: Option<u8>, bytes: Option<&[u8]>) -> bool {
+    match message(heap, line) {
+        Some(message) => message.0 == sender && message.1.as_deref() == bytes,
+        None => false,
     }
 }
 
 #[test]
-fn counts(rt: HostRuntime) -> Result<(), Fail> {
-    match action(rt.alloc(), b"tick 1000000") {
-        Some(Action::Tick { count }) => assert_eq!(rt; count, 1_000_000),
-        _ => return Err(Fail::new("no tick")),
+fn messages(rt: HostRuntime) {
+    assert!(rt; is_message(rt.alloc(), b"hand 1f -", Some(0x1F), Some(&[])));
+    assert!(rt; is_message(rt.alloc(), b"take 84", None, Some(&[0x84])));
+    assert!(rt; is_message(rt.alloc(), b"take", None, None));
+}
+
+// The ticks of a line with none, or the place of a change with the length of its reading; none if the line is neither.
+fn counted(heap: Global, line: &[u8]) -> Option<(usize, Option<usize>)> {
+    match action(heap, line)? {
+        Action::Tick { count } => Some((count, None)),
+        Action::Change { place, reading } => Some((place, Some(reading.len()))),
+        _ => None,
     }
-    match action(rt.alloc(), b"tick room 7") {
-        Some(Action::Tick { count }) => assert_eq!(rt; count, 1),
-        _ => return Err(Fail::new("no tick")),
-    }
-    match action(rt.alloc(), b"change 18446744073709551615 -") {
-        Some(Action::Change { place, reading }) => {
-            assert_eq!(rt; place, usize::MAX);
-            assert_eq!(rt; reading.len(), 0);
-            Ok(())
-        }
-        _ => Err(Fail::new("no change")),
-    }
+}
+
+#[test]
+fn counts(rt: HostRuntime) {
+    assert!(rt; counted(rt.alloc(), b"tick 1000000") == Some((1_000_000, None)));
+    assert!(rt; counted(rt.alloc(), b"tick room 7") == Some((1, None)));
+    let change = counted(rt.alloc(), b"change 18446744073709551615 -");
+    assert!(rt; change == Some((usize::MAX, Some(0))));
 }

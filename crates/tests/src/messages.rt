@@ -1,16 +1,13 @@
 //! Messages and lists against bytes that were worked out by hand from the formats, and malformed ones against the refusal
 //! that each must get.
+use crate::boards::vendor;
 use board::Board;
 use board::drive::DriveBoard;
 use board::table::TableBoard;
 use crc::crc32c;
 use event::delay::{Delays, Seconds, Tenths};
-use event::id::UniqueId;
-use event::occurrence::Occurrence;
-use event::reading::Reading;
 use event::refusal::Refusal;
 use marks::types::{Marked, Marks};
-use std::test::Fail;
 use wire::message::write_event;
 use wire::read::{read_event, read_request};
 use wire::request::write_sync;
@@ -25,26 +22,20 @@ struct Damage {
 
 // The check word of a message, written into its last four bytes.
 fn seal(message: &mut [u8]) {
-    if let Some((rest, word)) = message.split_last_chunk_mut::<4>() {
-        *word = crc32c(rest).to_le_bytes();
+    if let Some(rest) = message.len().checked_sub(4) {
+        let word = crc32c(&message[..rest]).to_le_bytes();
+        message[rest..].copy_from_slice(&word);
     }
 }
 
-// The number of the refusal, if there is one.
-fn number_of(read: Result<Message, Refusal>) -> Option<u8> {
-    read.err().map(Refusal::number)
+// The number of the refusal of a request, if it is refused.
+fn request_number(request: &[u8]) -> Option<u8> {
+    read_request(request).err().map(Refusal::number)
 }
 
-// A source of a vendor's event in a namespace of this number, with a reading of so many bytes.
-fn vendor(number: u32, length: usize) -> Occurrence {
-    let bytes = [0xA5; 64];
-    let reading = Reading::new(&bytes[0..length.min(64)]).unwrap_or_default();
-    let id = UniqueId {
-        identifier: 0xC0,
-        scope: 0,
-        info: number,
-    };
-    Occurrence { id, reading }
+// The number of the refusal of an event message, if it is refused.
+fn event_number(event: &[u8]) -> Option<u8> {
+    read_event(event).err().map(Refusal::number)
 }
 
 // The bytes of a request that one item makes: composite temperature on.
@@ -285,36 +276,18 @@ const DAMAGED_EVENTS: [Damage; 21] = [
 
 // The list of the one changed source of a drive, in an event message of generation 1.
 #[test]
-fn one_occurrence(rt: HostRuntime) -> Result<(), Fail> {
-    let mut drive = DriveBoard::new(7);
-    assert!(rt; drive.set(6, &[0x1E]));
-    let mut marks = Marks::none();
-    let reading = drive.reading(6).ok_or("the drive has no temperature")?;
-    assert!(rt; marks.mark(6, reading));
-    let marked = Marked {
-        board: &drive,
-        marks: &marks,
-    };
-    let mut buffer = [0xEE; 4111];
-    assert_eq!(rt; write_event(&mut buffer, 8, &marked).ok(), Some(25));
-    let mut expected = EVENT;
-    seal(&mut expected);
-    assert!(rt; buffer[0..25] == expected[0..25]);
-    assert_eq!(rt; buffer[25], 0xEE);
-    Ok(())
+fn one_occurrence(rt: HostRuntime) {
+    let mut expected = [0xEE; 26];
+    expected[..25].copy_from_slice(&EVENT);
+    seal(&mut expected[..25]);
+    assert!(rt; changed_drive(6, &[0x1E]) == Some((25, expected)));
 }
 
 // Bodies of 4,096 and 4,097 bytes: the first fits, the second leaves the header alone with the overflow bit.
 #[test]
 fn body_limit(rt: HostRuntime) {
-    assert_eq!(rt;
-        list_of(55, 63),
-        Some((4103, [0x39, 0x00, 0x07, 0x10, 0x00, 0x07, 0xF8]))
-    );
-    assert_eq!(rt;
-        list_of(56, 0),
-        Some((7, [0x00, 0x00, 0x00, 0x00, 0x80, 0x07, 0xF8]))
-    );
+    assert!(rt; list_of(55, 63) == Some((4103, [0x39, 0x00, 0x07, 0x10, 0x00, 0x07, 0xF8])));
+    assert!(rt; list_of(56, 0) == Some((7, [0x00, 0x00, 0x00, 0x00, 0x80, 0x07, 0xF8])));
 }
 
 // A sync that switches the composite temperature on.
@@ -329,16 +302,16 @@ fn written_sync(rt: HostRuntime) {
         first: Seconds(5),
         retry: Tenths(20),
     };
-    assert_eq!(rt; write_sync(&mut buffer, &items, delays).ok(), Some(28));
-    let mut expected = REQUEST;
-    seal(&mut expected);
-    assert!(rt; buffer[0..28] == expected[0..28]);
-    assert_eq!(rt; buffer[28], 0xEE);
+    assert!(rt; write_sync(&mut buffer, &items, delays).ok() == Some(28));
+    let mut expected = [0xEE; 29];
+    expected[..28].copy_from_slice(&REQUEST);
+    seal(&mut expected[..28]);
+    assert!(rt; buffer.first_chunk() == Some(&expected));
 }
 
 // An item that switches on and one that switches off, of one identifier: both are read, in their order.
 #[test]
-fn on_then_off(rt: HostRuntime) -> Result<(), Fail> {
+fn on_then_off(rt: HostRuntime) {
     let mut bytes = [0u8; 31];
     bytes[0..24].copy_from_slice(&REQUEST[0..24]);
     bytes[16] = 2;
@@ -346,55 +319,67 @@ fn on_then_off(rt: HostRuntime) -> Result<(), Fail> {
     bytes[24] = 3;
     bytes[25] = 0x06;
     seal(&mut bytes);
-    let Ok(Message::Sync { items, .. }) = read_request(&bytes) else {
-        return Err(Fail::new("no sync"));
-    };
-    let mut switches = items.map(|item| (item.identifier, item.on));
-    assert_eq!(rt; switches.next(), Some((0x06, true)));
-    assert_eq!(rt; switches.next(), Some((0x06, false)));
-    assert!(rt; switches.next().is_none());
-    Ok(())
+    let expected = [
+        Some(Item {
+            identifier: 0x06,
+            on: true,
+        }),
+        Some(Item {
+            identifier: 0x06,
+            on: false,
+        }),
+        None,
+    ];
+    assert!(rt; three_items(&bytes) == Some(expected));
+}
+
+// The first three items of a sync, as far as there are so many; none at all if the bytes are no sync.
+fn three_items(bytes: &[u8]) -> Option<[Option<Item>; 3]> {
+    match read_request(bytes) {
+        Ok(Message::Sync { mut items, .. }) => Some([items.next(), items.next(), items.next()]),
+        _ => None,
+    }
 }
 
 // Each damaged request with a right check word, and the three that no changed byte makes.
 #[test]
 fn damaged_requests(rt: HostRuntime) {
-    assert_eq!(rt; first_wrong(read_request, REQUEST, &DAMAGED_REQUESTS), None);
-    assert_eq!(rt; number_of(read_request(&REQUEST)), Some(4));
-    assert_eq!(rt; number_of(read_request(&REQUEST[0..24])), Some(2));
-    assert_eq!(rt; number_of(read_request(&[0x84; 4225])), Some(2));
+    assert!(rt; first_wrong(request_number, REQUEST, &DAMAGED_REQUESTS) == None);
+    assert!(rt; request_number(&REQUEST) == Some(4));
+    assert!(rt; request_number(&REQUEST[0..24]) == Some(2));
+    assert!(rt; request_number(&[0x84; 4225]) == Some(2));
     let mut long = [0u8; 4224];
     long[0..28].copy_from_slice(&REQUEST);
     long[18] = 0x06;
     long[19] = 0x10;
     seal(&mut long);
-    assert_eq!(rt; number_of(read_request(&long)), Some(8));
+    assert!(rt; request_number(&long) == Some(8));
 }
 
 // Each damaged event message with a right check word; one with a wrong check word; one with an ID twice.
 #[test]
 fn damaged_events(rt: HostRuntime) {
-    assert_eq!(rt; first_wrong(read_event, EVENT, &DAMAGED_EVENTS), None);
-    assert_eq!(rt; number_of(read_event(&EVENT)), Some(25));
+    assert!(rt; first_wrong(event_number, EVENT, &DAMAGED_EVENTS) == None);
+    assert!(rt; event_number(&EVENT) == Some(25));
     let mut twice = [0u8; 35];
     twice[0..21].copy_from_slice(&EVENT[0..21]);
     twice[21..31].copy_from_slice(&EVENT[11..21]);
     twice[4] = 2;
     twice[6] = 0x1B;
     seal(&mut twice);
-    assert_eq!(rt; number_of(read_event(&twice)), Some(25));
+    assert!(rt; event_number(&twice) == Some(25));
     twice[24] = 0x07;
     seal(&mut twice);
-    assert_eq!(rt; number_of(read_event(&twice)), None);
+    assert!(rt; event_number(&twice) == None);
 }
 
 // The first damage that, with a right check word, brings another number than it must.
-fn first_wrong<F: Fn(&[u8]) -> Result<Message<'_>, Refusal>, const N: usize>(
-    read: F,
+fn first_wrong<F: Fn(&[u8]) -> Option<u8>, const N: usize>(
+    number: F,
     message: [u8; N],
     damages: &[Damage],
 ) -> Option<usize>
-    requires { F.IsAlwaysCallable read }
+    requires { F.IsAlwaysCallable number }
 {
     damages.iter().position(|damage| {
         let mut bytes = message;
@@ -402,8 +387,25 @@ fn first_wrong<F: Fn(&[u8]) -> Result<Message<'_>, Refusal>, const N: usize>(
             *byte = damage.byte;
         }
         seal(&mut bytes);
-        number_of(read(&bytes)) != damage.number
+        number(&bytes) != damage.number
     })
+}
+
+// The event message, of generation 1, of a drive with one changed source: its length, and the first bytes of its buffer,
+// which is full of EEh before.
+fn changed_drive(place: usize, reading: &[u8]) -> Option<(usize, [u8; 26])> {
+    let mut drive = DriveBoard::new(7);
+    let mut marks = Marks::none();
+    if !drive.set(place, reading) || !marks.mark(place, drive.reading(place)?) {
+        return None;
+    }
+    let marked = Marked {
+        board: &drive,
+        marks: &marks,
+    };
+    let mut buffer = [0xEE; 4111];
+    let n = write_event(&mut buffer, 8, &marked).ok()?;
+    Some((n, *buffer.first_chunk()?))
 }
 
 // The list of so many vendor sources with readings of 64 bytes, one of `last` bytes (if any) and one of none, at

@@ -55,7 +55,7 @@ fn is_packet(carrier: &SmbusCarrier, number: usize, bytes: &[u8]) -> bool {
 fn three_packets(rt: HostRuntime) -> Result<(), Fail> {
     let mut carrier = SmbusCarrier::new(0x1D, 0x20, 0x0A)?;
     assert!(rt; carrier.put(0x08, LONG));
-    assert_eq!(rt; carrier.packet_count(), 3);
+    assert!(rt; carrier.packet_count() == 3);
     assert!(rt; is_packet(&carrier, 0, LONG_0));
     assert!(rt; is_packet(&carrier, 1, LONG_1));
     assert!(rt; is_packet(&carrier, 2, LONG_2));
@@ -67,12 +67,12 @@ fn three_packets(rt: HostRuntime) -> Result<(), Fail> {
 fn one_packet(rt: HostRuntime) -> Result<(), Fail> {
     let mut carrier = SmbusCarrier::new(0x3A, 0x10, 0x0B)?;
     assert!(rt; carrier.put(0x09, SHORT));
-    assert_eq!(rt; carrier.packet_count(), 1);
+    assert!(rt; carrier.packet_count() == 1);
     let mut whole = [0u8; 73];
-    assert_eq!(rt; carrier.copy_packet(0, &mut whole), Some(73));
-    assert_eq!(rt; whole, *SHORT_0);
-    assert_eq!(rt; carrier.copy_packet(1, &mut whole), None);
-    assert_eq!(rt; whole, *SHORT_0);
+    let first = carrier.copy_packet(0, &mut whole);
+    assert!(rt; (first, whole) == (Some(73), *SHORT_0));
+    let second = carrier.copy_packet(1, &mut whole);
+    assert!(rt; (second, whole) == (None, *SHORT_0));
     Ok(())
 }
 
@@ -98,9 +98,15 @@ fn numbers(rt: HostRuntime) -> Result<(), Fail> {
         (None, 0),
     ];
     for (number, packet) in expected.into_iter().enumerate() {
-        assert_eq!(rt; length_and_flags(&carrier, number), packet, "{}", number);
+        assert!(rt; length_and_flags(&carrier, number) == packet, "{}", number);
     }
     Ok(())
+}
+
+// Whether a message is put, and how many packets there are then.
+fn packets_after(carrier: &mut SmbusCarrier, message: &[u8]) -> (bool, usize) {
+    let taken = carrier.put(0x08, message);
+    (taken, carrier.packet_count())
 }
 
 // What was put comes out; what is refused changes nothing.
@@ -108,19 +114,17 @@ fn numbers(rt: HostRuntime) -> Result<(), Fail> {
 fn there_and_back(rt: HostRuntime) -> Result<(), Fail> {
     let mut carrier = SmbusCarrier::new(0x1D, 0x20, 0x0A)?;
     let mut buffer = [0xEEu8; 4224];
-    assert_eq!(rt; deliver(&mut carrier, 0x08, LONG, &mut buffer), Ok(150));
-    assert_eq!(rt; buffer[149], LONG[149]);
-    assert_eq!(rt; buffer[150], 0xEE);
-    assert!(rt; !carrier.put(0x08, &[0; 4225]));
-    assert_eq!(rt; carrier.packet_count(), 3);
-    assert!(rt; carrier.put(0x08, &[0; 4224]));
-    assert_eq!(rt; carrier.packet_count(), 66);
+    assert!(rt; deliver(&mut carrier, 0x08, LONG, &mut buffer) == Ok(150));
+    assert!(rt; (buffer[149], buffer[150]) == (LONG[149], 0xEE));
+    let puts = [
+        packets_after(&mut carrier, &[0; 4225]),
+        packets_after(&mut carrier, &[0; 4224]),
+    ];
+    assert!(rt; puts == [(false, 3), (true, 66)]);
     carrier.link_down();
-    assert_eq!(rt;
-        deliver(&mut carrier, 0x08, LONG, &mut buffer),
-        Err(Refusal::NoMessage)
-    );
+    let delivered = deliver(&mut carrier, 0x08, LONG, &mut buffer);
+    assert!(rt; delivered == Err(Refusal::NoMessage));
     let refusal = SmbusCarrier::new(0x80, 0x20, 0x0A).err();
-    assert_eq!(rt; refusal.map(Refusal::number), Some(16));
+    assert!(rt; refusal.map(Refusal::number) == Some(16));
     Ok(())
 }
