@@ -344,7 +344,13 @@ fn three_items(bytes: &[u8]) -> Option<[Option<Item>; 3]> {
 // Each damaged request with a right check word, and the three that no changed byte makes.
 #[test]
 fn damaged_requests(rt: HostRuntime) {
-    assert!(rt; first_wrong(request_number, REQUEST, &DAMAGED_REQUESTS) == None);
+    for (i, damage) in DAMAGED_REQUESTS.iter().enumerate() {
+        assert!(rt;
+            request_number(&damaged(REQUEST, damage)) == damage.number,
+            "{}",
+            i
+        );
+    }
     assert!(rt; request_number(&REQUEST) == Some(4));
     assert!(rt; request_number(&REQUEST[0..24]) == Some(2));
     assert!(rt; request_number(&[0x84; 4225]) == Some(2));
@@ -359,7 +365,13 @@ fn damaged_requests(rt: HostRuntime) {
 // Each damaged event message with a right check word; one with a wrong check word; one with an ID twice.
 #[test]
 fn damaged_events(rt: HostRuntime) {
-    assert!(rt; first_wrong(event_number, EVENT, &DAMAGED_EVENTS) == None);
+    for (i, damage) in DAMAGED_EVENTS.iter().enumerate() {
+        assert!(rt;
+            event_number(&damaged(EVENT, damage)) == damage.number,
+            "{}",
+            i
+        );
+    }
     assert!(rt; event_number(&EVENT) == Some(25));
     let mut twice = [0u8; 35];
     twice[0..21].copy_from_slice(&EVENT[0..21]);
@@ -373,22 +385,14 @@ fn damaged_events(rt: HostRuntime) {
     assert!(rt; event_number(&twice) == None);
 }
 
-// The first damage that, with a right check word, brings another number than it must.
-fn first_wrong<F: Fn(&[u8]) -> Option<u8>, const N: usize>(
-    number: F,
-    message: [u8; N],
-    damages: &[Damage],
-) -> Option<usize>
-    requires { F.IsAlwaysCallable number }
-{
-    damages.iter().position(|damage| {
-        let mut bytes = message;
-        if let Some(byte) = bytes.get_mut(damage.place) {
-            *byte = damage.byte;
-        }
-        seal(&mut bytes);
-        number(&bytes) != damage.number
-    })
+// A message with this damage, and a right check word.
+fn damaged<const N: usize>(message: [u8; N], damage: &Damage) -> [u8; N] {
+    let mut bytes = message;
+    if let Some(byte) = bytes.get_mut(damage.place) {
+        *byte = damage.byte;
+    }
+    seal(&mut bytes);
+    bytes
 }
 
 // The event message, of generation 1, of a drive with one changed source: its length, and the first bytes of its buffer,

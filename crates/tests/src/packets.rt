@@ -97,8 +97,8 @@ fn numbers(rt: HostRuntime) -> Result<(), Fail> {
         (Some(53), 0x48),
         (None, 0),
     ];
-    for (number, packet) in expected.into_iter().enumerate() {
-        assert!(rt; length_and_flags(&carrier, number) == packet, "{}", number);
+    for (number, packet) in expected.iter().enumerate() {
+        assert!(rt; length_and_flags(&carrier, number) == *packet, "{}", number);
     }
     Ok(())
 }
