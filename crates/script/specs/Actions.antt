@@ -51,21 +51,29 @@ show_of (a ∷ b ∷ []) = Err WordMissing
 show_of (a ∷ b ∷ c ∷ []) = shown (id_of a b c)
 show_of (a ∷ b ∷ c ∷ d ∷ ws) = Err WordTooMany
 
--- a change: place, reading
-abbrev pub change_of : List Bytes → Result SaidAction Fault
-change_of (place ∷ reading ∷ []) = do
+-- the change that two words say
+abbrev pub change_by : (place reading : Bytes) → Result SaidAction Fault
+change_by place reading = do
   at ← number_of 10 usize_max place
   bytes ← bytes_of reading
   Ok (said_change at bytes)
+
+-- a change: place, reading
+abbrev pub change_of : List Bytes → Result SaidAction Fault
+change_of (place ∷ reading ∷ []) = change_by place reading
 change_of words = Err (miscount (length words) 2)
 
--- a sync: delay, retry delay, items
-abbrev pub sync_of : List Bytes → Result SaidAction Fault
-sync_of (delay ∷ retry ∷ list ∷ []) = do
+-- the sync that three words say
+abbrev pub sync_by : (delay retry list : Bytes) → Result SaidAction Fault
+sync_by delay retry list = do
   seconds ← number_of 10 255 delay
   tenths ← number_of 10 255 retry
   items ← items_of list
   Ok (said_sync seconds tenths items)
+
+-- a sync: delay, retry delay, items
+abbrev pub sync_of : List Bytes → Result SaidAction Fault
+sync_of (delay ∷ retry ∷ list ∷ []) = sync_by delay retry list
 sync_of words = Err (miscount (length words) 3)
 
 -- a message, if there is one
@@ -84,6 +92,15 @@ hand_of (sender ∷ rest) = do
   message ← message_of rest
   Ok (said_hand id message)
 
+-- a call of one word that is about messages
+abbrev pub about_messages_of : Bytes → Result Action Fault
+about_messages_of name =
+    cond (bytes_eq name (codes "ack")) (Ok Ack)
+    (cond (bytes_eq name (codes "give-up")) (Ok GiveUp)
+    (cond (bytes_eq name (codes "pick-up")) (Ok PickUp)
+    (cond (bytes_eq name (codes "fetch")) (Ok Fetch)
+    (cond (bytes_eq name (codes "packets")) (Ok Packets) (Err UnknownWord)))))
+
 -- a call of one word
 abbrev pub plain_of : Bytes → Result Action Fault
 plain_of name =
@@ -91,11 +108,7 @@ plain_of name =
     (cond (bytes_eq name (codes "down")) (Ok Down)
     (cond (bytes_eq name (codes "lose")) (Ok Lose)
     (cond (bytes_eq name (codes "reset")) (Ok Reset)
-    (cond (bytes_eq name (codes "ack")) (Ok Ack)
-    (cond (bytes_eq name (codes "give-up")) (Ok GiveUp)
-    (cond (bytes_eq name (codes "pick-up")) (Ok PickUp)
-    (cond (bytes_eq name (codes "fetch")) (Ok Fetch)
-    (cond (bytes_eq name (codes "packets")) (Ok Packets) (Err UnknownWord)))))))))
+    (about_messages_of name))))
 
 -- a call that has no words after its name
 abbrev pub alone_of : Bytes → List Bytes → Result SaidAction Fault

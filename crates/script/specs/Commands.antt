@@ -31,9 +31,13 @@ called (name ∷ rest) said = do
 abbrev pub call_of : List Bytes → Result SaidCommand Fault
 call_of words = roomed words >>= (λ p. called p.0 p.1)
 
+-- the drive board that a word says
+abbrev pub drive_by : Bytes → Result Command Fault
+drive_by id = number_of 16 65535 id >>= (λ controller. Ok (DriveBoard controller))
+
 -- the drive board: its controller ID
 abbrev pub drive_of : List Bytes → Result Command Fault
-drive_of (id ∷ []) = number_of 16 65535 id >>= (λ controller. Ok (DriveBoard controller))
+drive_of (id ∷ []) = drive_by id
 drive_of words = Err (miscount (length words) 1)
 
 -- a command that has no more words
@@ -47,21 +51,29 @@ board_of [] = Err WordMissing
 board_of (name ∷ rest) =
     cond (bytes_eq name (codes "table")) (bare TableBoard rest) (cond (bytes_eq name (codes "drive")) (drive_of rest) (Err UnknownWord))
 
--- a row of the table board: unique ID, reading
-abbrev pub row_of : List Bytes → Result SaidCommand Fault
-row_of (identifier ∷ scope ∷ info ∷ reading ∷ []) = do
+-- the row that four words say
+abbrev pub row_by : (identifier scope info reading : Bytes) → Result SaidCommand Fault
+row_by identifier scope info reading = do
   id ← id_of identifier scope info
   bytes ← bytes_of reading
   Ok (said_row id bytes)
+
+-- a row of the table board: unique ID, reading
+abbrev pub row_of : List Bytes → Result SaidCommand Fault
+row_of (identifier ∷ scope ∷ info ∷ reading ∷ []) = row_by identifier scope info reading
 row_of words = Err (miscount (length words) 4)
 
--- the SMBus carrier: destination address, source address, source endpoint ID
-abbrev pub smbus_of : List Bytes → Result Command Fault
-smbus_of (first ∷ second ∷ third ∷ []) = do
+-- the SMBus carrier that three words say: destination address, source address, source endpoint ID
+abbrev pub smbus_by : (first second third : Bytes) → Result Command Fault
+smbus_by first second third = do
   destination ← number_of 16 255 first
   source ← number_of 16 255 second
   id ← number_of 16 255 third
   Ok (Smbus destination source id)
+
+-- the SMBus carrier: destination address, source address, source endpoint ID
+abbrev pub smbus_of : List Bytes → Result Command Fault
+smbus_of (first ∷ second ∷ third ∷ []) = smbus_by first second third
 smbus_of words = Err (miscount (length words) 3)
 
 -- a carrier: its name, and for the SMBus carrier the two addresses and the endpoint ID

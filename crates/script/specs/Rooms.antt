@@ -1,5 +1,5 @@
 -- The buffers that calls work in. Assumes nothing.
-use Rattle.std.specs.Prelude.{ℕ, ◌-◌, cond, ◌&&◌, List, [], length, take, slice_index_or, nat_lt, Some, None, Ok, Err, Option, Result, codes}
+use Rattle.std.specs.Prelude.{ℕ, ◌-◌, Bool, cond, ◌&&◌, List, [], length, take, slice_index_or, nat_lt, Some, None, Ok, Err, Option, Result, codes}
 use Rattle.std.specs.Option.{unwrap_or}
 use Rattle.std.specs.Borrow.{Bor}
 use Rattle.std.specs.Str.{bytes_eq}
@@ -39,10 +39,14 @@ room_for (Some length) said = Ok (unwrap_or said length)
 room_for None None = Ok 0
 room_for None (Some length) = Err NoRoom
 
+-- does a word say that a room follows?
+abbrev pub is_room : Bytes → Bool
+is_room word = bytes_eq word (codes "room")
+
 -- the words of a call before its room, and the room: three words or more may end in `room` and a length
 abbrev pub roomed : List Bytes → Result (List Bytes × Option ℕ) Fault
 roomed words =
-    cond (nat_lt 2 (length words) && bytes_eq (slice_index_or words (length words - 2) []) (codes "room"))
+    cond (nat_lt 2 (length words) && is_room (slice_index_or words (length words - 2) []))
     (number_of 10 usize_max (slice_index_or words (length words - 1) []) >>= (λ room. Ok (take (length words - 2) words, Some room)))
     (Ok (words, None))
 

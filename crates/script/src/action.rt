@@ -1,6 +1,6 @@
 //! The words of a call are turned into an action. The allocator is a parameter of its own, as in the library's calls.
 ghost use Rattle.std.specs.Prelude.{◌≡◌, length, option_map, vec_items};
-ghost use Rattle.script.specs.Actions.{miscount, id_of, tick_of, show_of, change_of, sync_of, message_of, hand_of, plain_of, alone_of, action_of};
+ghost use Rattle.script.specs.Actions.{miscount, id_of, tick_of, show_of, change_by, change_of, sync_by, sync_of, message_of, hand_of, about_messages_of, plain_of, alone_of, action_of};
 ghost use Rattle.script.specs.Said.{action_said};
 ghost use Rattle.syntax.specs.Lines.{texts};
 ghost use Rattle.syntax.specs.Strings.{GivesAs};
@@ -36,17 +36,24 @@ pub(crate) fn unique_id(identifier: &[u8], scope: &[u8], info: &[u8]) -> Result<
     })
 }
 
-// A change: place, reading.
-fn change(heap: Global, words: &[&[u8]]) -> Result<Action, Fault>
-    ensures { GivesAs action_said result (change_of (texts words.now)) }
+// The change that two words say.
+fn change_by(heap: Global, place: &[u8], reading: &[u8]) -> Result<Action, Fault>
+    ensures { GivesAs action_said result (change_by place.now reading.now) }
 {
-    let [place, reading] = words else {
-        return Err(miscounted(words, 2));
-    };
     Ok(Action::Change {
         place: decimal(place)?,
         reading: bytes(heap, reading)?,
     })
+}
+
+// A change: place, reading.
+fn change(heap: Global, words: &[&[u8]]) -> Result<Action, Fault>
+    ensures { GivesAs action_said result (change_of (texts words.now)) }
+{
+    match words {
+        [place, reading] => change_by(heap, place, reading),
+        _ => Err(miscounted(words, 2)),
+    }
 }
 
 // Ticks: their count, 1 if absent.
@@ -62,13 +69,10 @@ fn tick(words: &[&[u8]]) -> Result<Action, Fault>
     }
 }
 
-// A sync: delay, retry delay, items.
-fn sync(heap: Global, words: &[&[u8]]) -> Result<Action, Fault>
-    ensures { GivesAs action_said result (sync_of (texts words.now)) }
+// The sync that three words say.
+fn sync_by(heap: Global, delay: &[u8], retry: &[u8], list: &[u8]) -> Result<Action, Fault>
+    ensures { GivesAs action_said result (sync_by delay.now retry.now list.now) }
 {
-    let [delay, retry, list] = words else {
-        return Err(miscounted(words, 3));
-    };
     Ok(Action::Sync {
         delays: Delays {
             first: Seconds(decimal(delay)?),
@@ -76,6 +80,16 @@ fn sync(heap: Global, words: &[&[u8]]) -> Result<Action, Fault>
         },
         items: items(heap, list)?,
     })
+}
+
+// A sync: delay, retry delay, items.
+fn sync(heap: Global, words: &[&[u8]]) -> Result<Action, Fault>
+    ensures { GivesAs action_said result (sync_of (texts words.now)) }
+{
+    match words {
+        [delay, retry, list] => sync_by(heap, delay, retry, list),
+        _ => Err(miscounted(words, 3)),
+    }
 }
 
 // A message, if there is one.
@@ -114,6 +128,20 @@ fn show(words: &[&[u8]]) -> Result<Action, Fault>
     })
 }
 
+// A call of one word that is about messages.
+fn about_messages(name: &[u8]) -> Result<Action, Fault>
+    ensures { result ≡ about_messages_of name.now }
+{
+    match name {
+        b"ack" => Ok(Action::Ack),
+        b"give-up" => Ok(Action::GiveUp),
+        b"pick-up" => Ok(Action::PickUp),
+        b"fetch" => Ok(Action::Fetch),
+        b"packets" => Ok(Action::Packets),
+        _ => Err(Fault::UnknownWord),
+    }
+}
+
 // A call of one word.
 fn plain(name: &[u8]) -> Result<Action, Fault>
     ensures { result ≡ plain_of name.now }
@@ -123,12 +151,7 @@ fn plain(name: &[u8]) -> Result<Action, Fault>
         b"down" => Ok(Action::Down),
         b"lose" => Ok(Action::Lose),
         b"reset" => Ok(Action::Reset),
-        b"ack" => Ok(Action::Ack),
-        b"give-up" => Ok(Action::GiveUp),
-        b"pick-up" => Ok(Action::PickUp),
-        b"fetch" => Ok(Action::Fetch),
-        b"packets" => Ok(Action::Packets),
-        _ => Err(Fault::UnknownWord),
+        _ => about_messages(name),
     }
 }
 

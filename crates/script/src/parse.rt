@@ -2,9 +2,10 @@
 ghost use Rattle.std.specs.Prelude.{◌≡◌, option_map, vec_items};
 ghost use Rattle.syntax.specs.Lines.{uncommented, words_of, texts};
 ghost use Rattle.syntax.specs.Strings.{GivesAs};
+ghost use Rattle.script.specs.declared.command.Command.TheVariants.{Mailbox};
 ghost use Rattle.script.specs.Said.{action_said, command_said};
-ghost use Rattle.script.specs.Rooms.{roomed, room_said};
-ghost use Rattle.script.specs.Commands.{text_of, call_of, drive_of, board_of, row_of, smbus_of, carrier_of, command_of, line_of};
+ghost use Rattle.script.specs.Rooms.{is_room, roomed, room_said};
+ghost use Rattle.script.specs.Commands.{text_of, call_of, drive_by, drive_of, bare, board_of, row_by, row_of, smbus_by, smbus_of, carrier_of, command_of, line_of};
 
 use crate::action::{action, miscounted, unique_id};
 use crate::command::{Action, Command};
@@ -15,16 +16,23 @@ use syntax::fault::Fault;
 use syntax::number::{decimal, hex};
 use syntax::words::{joined, words};
 
+// The drive board that a word says.
+fn drive_by(id: &[u8]) -> Result<Command, Fault>
+    ensures { result ≡ drive_by id.now }
+{
+    Ok(Command::DriveBoard {
+        controller: hex(id)?,
+    })
+}
+
 // The drive board: its controller ID.
 fn drive(words: &[&[u8]]) -> Result<Command, Fault>
     ensures { result ≡ drive_of (texts words.now) }
 {
-    let [id] = words else {
-        return Err(miscounted(words, 1));
-    };
-    Ok(Command::DriveBoard {
-        controller: hex(id)?,
-    })
+    match words {
+        [id] => drive_by(id),
+        _ => Err(miscounted(words, 1)),
+    }
 }
 
 // A board: its name, and for the drive board the controller ID.
@@ -40,26 +48,46 @@ fn board(words: &[&[u8]]) -> Result<Command, Fault>
     }
 }
 
-// A row of the table board: unique ID, reading.
-fn row(heap: Global, words: &[&[u8]]) -> Result<Command, Fault>
-    ensures { GivesAs command_said result (row_of (texts words.now)) }
+// The row that four words say.
+fn row_by(
+    heap: Global,
+    identifier: &[u8],
+    scope: &[u8],
+    info: &[u8],
+    reading: &[u8],
+) -> Result<Command, Fault>
+    ensures { GivesAs command_said result (row_by identifier.now scope.now info.now reading.now) }
 {
-    let [identifier, scope, info, reading] = words else {
-        return Err(miscounted(words, 4));
-    };
     Ok(Command::Row {
         id: unique_id(identifier, scope, info)?,
         reading: bytes(heap, reading)?,
     })
 }
 
-// The SMBus carrier: its two addresses and its endpoint ID.
-fn smbus(words: &[&[u8]]) -> Result<Command, Fault>
-    ensures { result ≡ smbus_of (texts words.now) }
+// A row of the table board: unique ID, reading.
+fn row(heap: Global, words: &[&[u8]]) -> Result<Command, Fault>
+    ensures { GivesAs command_said result (row_of (texts words.now)) }
 {
-    let [destination, source, id] = words else {
-        return Err(miscounted(words, 3));
-    };
+    match words {
+        [identifier, scope, info, reading] => row_by(heap, identifier, scope, info, reading),
+        _ => Err(miscounted(words, 4)),
+    }
+}
+
+// The mailbox carrier, which has no more words.
+fn mailbox(words: &[&[u8]]) -> Result<Command, Fault>
+    ensures { result ≡ bare Mailbox (texts words.now) }
+{
+    match words {
+        [] => Ok(Command::Mailbox),
+        _ => Err(Fault::WordTooMany),
+    }
+}
+
+// The SMBus carrier that three words say.
+fn smbus_by(destination: &[u8], source: &[u8], id: &[u8]) -> Result<Command, Fault>
+    ensures { result ≡ smbus_by destination.now source.now id.now }
+{
     Ok(Command::Smbus {
         destination: hex(destination)?,
         source: hex(source)?,
@@ -67,25 +95,46 @@ fn smbus(words: &[&[u8]]) -> Result<Command, Fault>
     })
 }
 
+// The SMBus carrier: its two addresses and its endpoint ID.
+fn smbus(words: &[&[u8]]) -> Result<Command, Fault>
+    ensures { result ≡ smbus_of (texts words.now) }
+{
+    match words {
+        [destination, source, id] => smbus_by(destination, source, id),
+        _ => Err(miscounted(words, 3)),
+    }
+}
+
 // A carrier: its name, and for the SMBus carrier the two addresses and the endpoint ID.
 fn carrier(words: &[&[u8]]) -> Result<Command, Fault>
     ensures { result ≡ carrier_of (texts words.now) }
 {
-    match words {
-        [] => Err(Fault::WordMissing),
-        [b"mailbox"] => Ok(Command::Mailbox),
-        [b"mailbox", ..] => Err(Fault::WordTooMany),
-        [b"smbus", rest @ ..] => smbus(rest),
+    let [name, rest @ ..] = words else {
+        return Err(Fault::WordMissing);
+    };
+    match *name {
+        b"mailbox" => mailbox(rest),
+        b"smbus" => smbus(rest),
         _ => Err(Fault::UnknownWord),
     }
+}
+
+// Whether a word says that a room follows.
+fn is_room(word: &[u8]) -> bool
+    ensures { result ≡ is_room word.now }
+{
+    matches!(word, b"room")
 }
 
 // The words of a call before its room, and the room.
 fn said_room<'a>(words: &'a [&'a [u8]]) -> Result<(&'a [&'a [u8]], Option<usize>), Fault>
     ensures { GivesAs room_said result (roomed (texts words.now)) }
 {
-    match words.split_last_chunk::<2>() {
-        Some((call, [b"room", length])) if !call.is_empty() => Ok((call, Some(decimal(length)?))),
+    match words {
+        [call @ .., name, length] if !call.is_empty() && is_room(name) => Ok((
+            call,
+            Some(decimal(length)?),
+        )),
         _ => Ok((words, None)),
     }
 }

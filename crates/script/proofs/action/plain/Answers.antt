@@ -12,21 +12,20 @@ returns-in_default c =
       unread s (codes "down") (λ r. grind arith),
       unread s (codes "lose") (λ r. grind arith),
       unread s (codes "reset") (λ r. grind arith),
-      unread s (codes "ack") (λ r. grind arith),
-      unread s (codes "give-up") (λ r. grind arith),
-      unread s (codes "pick-up") (λ r. grind arith),
-      unread s (codes "fetch") (λ r. grind arith),
-      unread s (codes "packets") (λ r. grind arith),
-    )
+    ) c.about_messages.ensures
 
-pub returns-in-103 : goal.returns-in-103
-returns-in-103 c =
-    ap plain_of (sym (text_from_reads c.args.name.now (codes "give-up") (omega arith) (search rules)))
+pub returns-in-up : goal.returns-in-up
+returns-in-up c =
+    ap plain_of (sym (text_from_reads c.args.name.now (codes "up") (omega arith) (search rules)))
 
-pub returns-in-112 : goal.returns-in-112
-returns-in-112 c =
-    ap plain_of (sym (text_from_reads c.args.name.now (codes "pick-up") (omega arith) (search rules)))
+pub returns-in-down : goal.returns-in-down
+returns-in-down c =
+    ap plain_of (sym (text_from_reads c.args.name.now (codes "down") (omega arith) (search rules)))
 
-pub returns-in-packets : goal.returns-in-packets
-returns-in-packets c =
-    ap plain_of (sym (text_from_reads c.args.name.now (codes "packets") (omega arith) (search rules)))
+pub returns-in-lose : goal.returns-in-lose
+returns-in-lose c =
+    ap plain_of (sym (text_from_reads c.args.name.now (codes "lose") (omega arith) (search rules)))
+
+pub returns-in-reset : goal.returns-in-reset
+returns-in-reset c =
+    ap plain_of (sym (text_from_reads c.args.name.now (codes "reset") (omega arith) (search rules)))
