@@ -31,13 +31,9 @@ called (name ∷ rest) said = do
 abbrev pub call_of : List Bytes → Result SaidCommand Fault
 call_of words = roomed words >>= (λ p. called p.0 p.1)
 
--- the drive board that a word says
-abbrev pub drive_by : Bytes → Result Command Fault
-drive_by id = number_of 16 65535 id >>= (λ controller. Ok (DriveBoard controller))
-
 -- the drive board: its controller ID
 abbrev pub drive_of : List Bytes → Result Command Fault
-drive_of (id ∷ []) = drive_by id
+drive_of (id ∷ []) = number_of 16 65535 id >>= (λ controller. Ok (DriveBoard controller))
 drive_of words = Err (miscount (length words) 1)
 
 -- a command that has no more words

@@ -5,7 +5,7 @@ ghost use Rattle.syntax.specs.Strings.{GivesAs};
 ghost use Rattle.script.specs.declared.command.Command.TheVariants.{Mailbox};
 ghost use Rattle.script.specs.Said.{action_said, command_said};
 ghost use Rattle.script.specs.Rooms.{is_room, roomed, room_said};
-ghost use Rattle.script.specs.Commands.{text_of, call_of, drive_by, drive_of, bare, board_of, row_by, row_of, smbus_by, smbus_of, carrier_of, command_of, line_of};
+ghost use Rattle.script.specs.Commands.{text_of, call_of, drive_of, bare, board_of, row_by, row_of, smbus_by, smbus_of, carrier_of, command_of, line_of};
 
 use crate::action::{action, miscounted, unique_id};
 use crate::command::{Action, Command};
@@ -16,23 +16,16 @@ use syntax::fault::Fault;
 use syntax::number::{decimal, hex};
 use syntax::words::{joined, words};
 
-// The drive board that a word says.
-fn drive_by(id: &[u8]) -> Result<Command, Fault>
-    ensures { result ≡ drive_by id.now }
-{
-    Ok(Command::DriveBoard {
-        controller: hex(id)?,
-    })
-}
-
 // The drive board: its controller ID.
 fn drive(words: &[&[u8]]) -> Result<Command, Fault>
     ensures { result ≡ drive_of (texts words.now) }
 {
-    match words {
-        [id] => drive_by(id),
-        _ => Err(miscounted(words, 1)),
-    }
+    let [id] = words else {
+        return Err(miscounted(words, 1));
+    };
+    Ok(Command::DriveBoard {
+        controller: hex(id)?,
+    })
 }
 
 // A board: its name, and for the drive board the controller ID.
