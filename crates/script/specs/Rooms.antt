@@ -43,11 +43,15 @@ room_for None (Some length) = Err NoRoom
 abbrev pub is_room : Bytes → Bool
 is_room word = bytes_eq word (codes "room")
 
+-- the words of a call, and the room of this length
+abbrev pub with_room : (call : List Bytes) → (length : Bytes) → Result (List Bytes × Option ℕ) Fault
+with_room call length = number_of 10 usize_max length >>= (λ room. Ok (call, Some room))
+
 -- the words of a call before its room, and the room: three words or more may end in `room` and a length
 abbrev pub roomed : List Bytes → Result (List Bytes × Option ℕ) Fault
 roomed words =
     cond (nat_lt 2 (length words) && is_room (slice_index_or words (length words - 2) []))
-    (number_of 10 usize_max (slice_index_or words (length words - 1) []) >>= (λ room. Ok (take (length words - 2) words, Some room)))
+    (with_room (take (length words - 2) words) (slice_index_or words (length words - 1) []))
     (Ok (words, None))
 
 -- words and a room, as the bytes that they are

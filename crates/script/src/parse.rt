@@ -2,9 +2,9 @@
 ghost use Rattle.std.specs.Prelude.{◌≡◌, option_map, vec_items};
 ghost use Rattle.syntax.specs.Lines.{uncommented, words_of, texts};
 ghost use Rattle.syntax.specs.Strings.{GivesAs};
-ghost use Rattle.script.specs.declared.command.Command.TheVariants.{Mailbox};
+ghost use Rattle.script.specs.declared.command.Command.TheVariants.{TableBoard, Mailbox};
 ghost use Rattle.script.specs.Said.{action_said, command_said};
-ghost use Rattle.script.specs.Rooms.{is_room, roomed, room_said};
+ghost use Rattle.script.specs.Rooms.{is_room, with_room, roomed, room_said};
 ghost use Rattle.script.specs.Commands.{text_of, call_of, drive_of, bare, board_of, row_by, row_of, smbus_by, smbus_of, carrier_of, command_of, line_of};
 
 use crate::action::{action, miscounted, unique_id};
@@ -15,6 +15,16 @@ use syntax::bytes::bytes;
 use syntax::fault::Fault;
 use syntax::number::{decimal, hex};
 use syntax::words::{joined, words};
+
+// The table board, which has no more words.
+fn table(words: &[&[u8]]) -> Result<Command, Fault>
+    ensures { result ≡ bare TableBoard (texts words.now) }
+{
+    match words {
+        [] => Ok(Command::TableBoard),
+        _ => Err(Fault::WordTooMany),
+    }
+}
 
 // The drive board: its controller ID.
 fn drive(words: &[&[u8]]) -> Result<Command, Fault>
@@ -32,11 +42,12 @@ fn drive(words: &[&[u8]]) -> Result<Command, Fault>
 fn board(words: &[&[u8]]) -> Result<Command, Fault>
     ensures { result ≡ board_of (texts words.now) }
 {
-    match words {
-        [] => Err(Fault::WordMissing),
-        [b"table"] => Ok(Command::TableBoard),
-        [b"table", ..] => Err(Fault::WordTooMany),
-        [b"drive", rest @ ..] => drive(rest),
+    let [name, rest @ ..] = words else {
+        return Err(Fault::WordMissing);
+    };
+    match *name {
+        b"table" => table(rest),
+        b"drive" => drive(rest),
         _ => Err(Fault::UnknownWord),
     }
 }
@@ -119,15 +130,22 @@ fn is_room(word: &[u8]) -> bool
     matches!(word, b"room")
 }
 
+// The words of a call, and the room of this length.
+fn with_room<'a>(
+    call: &'a [&'a [u8]],
+    length: &[u8],
+) -> Result<(&'a [&'a [u8]], Option<usize>), Fault>
+    ensures { GivesAs room_said result (with_room (texts call.now) length.now) }
+{
+    Ok((call, Some(decimal(length)?)))
+}
+
 // The words of a call before its room, and the room.
 fn said_room<'a>(words: &'a [&'a [u8]]) -> Result<(&'a [&'a [u8]], Option<usize>), Fault>
     ensures { GivesAs room_said result (roomed (texts words.now)) }
 {
     match words {
-        [call @ .., name, length] if !call.is_empty() && is_room(name) => Ok((
-            call,
-            Some(decimal(length)?),
-        )),
+        [call @ .., name, length] if !call.is_empty() && is_room(name) => with_room(call, length),
         _ => Ok((words, None)),
     }
 }
