@@ -2,7 +2,6 @@
 ghost use Rattle.std.specs.Prelude.{◌≡◌, option_map, vec_items};
 ghost use Rattle.syntax.specs.Lines.{uncommented, words_of, texts};
 ghost use Rattle.syntax.specs.Strings.{GivesAs};
-ghost use Rattle.script.specs.declared.command.Command.TheVariants.{TableBoard, Mailbox};
 ghost use Rattle.script.specs.Said.{action_said, command_said};
 ghost use Rattle.script.specs.Rooms.{is_room, with_room, roomed, room_said};
 ghost use Rattle.script.specs.Commands.{text_of, call_of, drive_of, bare, board_of, row_by, row_of, smbus_by, smbus_of, carrier_of, command_of, line_of};
@@ -16,12 +15,12 @@ use syntax::fault::Fault;
 use syntax::number::{decimal, hex};
 use syntax::words::{joined, words};
 
-// The table board, which has no more words.
-fn table(words: &[&[u8]]) -> Result<Command, Fault>
-    ensures { result ≡ bare TableBoard (texts words.now) }
+// A command that has no more words.
+fn bare(command: Command, words: &[&[u8]]) -> Result<Command, Fault>
+    ensures { result ≡ bare command (texts words.now) }
 {
     match words {
-        [] => Ok(Command::TableBoard),
+        [] => Ok(command),
         _ => Err(Fault::WordTooMany),
     }
 }
@@ -46,7 +45,7 @@ fn board(words: &[&[u8]]) -> Result<Command, Fault>
         return Err(Fault::WordMissing);
     };
     match *name {
-        b"table" => table(rest),
+        b"table" => bare(Command::TableBoard, rest),
         b"drive" => drive(rest),
         _ => Err(Fault::UnknownWord),
     }
@@ -75,16 +74,6 @@ fn row(heap: Global, words: &[&[u8]]) -> Result<Command, Fault>
     match words {
         [identifier, scope, info, reading] => row_by(heap, identifier, scope, info, reading),
         _ => Err(miscounted(words, 4)),
-    }
-}
-
-// The mailbox carrier, which has no more words.
-fn mailbox(words: &[&[u8]]) -> Result<Command, Fault>
-    ensures { result ≡ bare Mailbox (texts words.now) }
-{
-    match words {
-        [] => Ok(Command::Mailbox),
-        _ => Err(Fault::WordTooMany),
     }
 }
 
@@ -117,7 +106,7 @@ fn carrier(words: &[&[u8]]) -> Result<Command, Fault>
         return Err(Fault::WordMissing);
     };
     match *name {
-        b"mailbox" => mailbox(rest),
+        b"mailbox" => bare(Command::Mailbox, rest),
         b"smbus" => smbus(rest),
         _ => Err(Fault::UnknownWord),
     }
