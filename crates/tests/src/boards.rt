@@ -20,7 +20,7 @@ fn first<B: Board>(board: &B, place: usize) -> Option<u8> {
 }
 
 // A source of a vendor's event in a namespace of this number, with a reading of so many bytes.
-pub fn vendor(number: u32, length: usize) -> Occurrence {
+pub(crate) fn vendor(number: u32, length: usize) -> Occurrence {
     let bytes = [0xA5; 64];
     let reading = Reading::new(&bytes[0..length.min(64)]).unwrap_or_default();
     let id = UniqueId {
