@@ -1,10 +1,9 @@
 -- What stored packets bring. Assumes nothing.
-use Rattle.std.specs.Prelude.{◌≡◌, ℕ, suc, ◌<◌, ◌≤◌, Bool, true, false, cond, List, [], ◌∷◌, map, length, Some, None, Option, nat_le, slice_index_or, refl}
-use Rattle.std.proofs.Common.{sym, ap, subst, ◌∙◌, zero-add, arith, le-leb}
+use Rattle.std.specs.Prelude.{◌≡◌, ℕ, suc, ◌<◌, ◌≤◌, Bool, true, false, cond, List, [], ◌∷◌, map, length, take, Some, None, Option, nat_le, slice_index_or, refl}
+use Rattle.std.proofs.Common.{sym, ap, subst, ◌∙◌, zero-add, arith, length-take, le-leb}
 use Rattle.std.proofs.lemmas.List.{get_or_past, get_or-map, length-map}
 use Rattle.std.proofs.lemmas.Bool.{cond-true, cond-false, lt-leb}
 use Rattle.std.proofs.lemmas.List.FromFn.{length-map-range_with_len, get_or-map-range_with_len}
-use Rattle.arrayvec.specs.ArrayVec.{ArrayVec}
 use Rattle.event.specs.Bytes.{Bytes}
 use Rattle.carrier.specs.Carriers.{Message, message_to, lying_fits}
 use Rattle.carrier.proofs.Lines.{fits}
@@ -44,9 +43,9 @@ pub defined_none : (a : Addresses) (destination : ℕ) → Defined a destination
 unfolding packets payloads
 defined_none a destination = refl
 
--- nor is there one in an empty vector
-pub defined_empty : (a : Addresses) (destination : ℕ) (row : ArrayVec Packet) → row.items ≡ [] → Defined a destination (stored row)
-defined_empty a destination row e = rw e (defined_none a destination)
+-- nor is there one in a row of which none is stored
+pub defined_empty : (a : Addresses) (destination : ℕ) (row : List Packet) → Defined a destination (stored 0 row)
+defined_empty a destination row = defined_none a destination
 
 -- what at most 66 packets bring fits
 pub brought_fits : (a : Addresses) (destination : ℕ) (ps : List Bytes) → length ps ≤ 66 → Defined a destination ps → lying_fits (brought destination ps) ≡ true
@@ -56,9 +55,13 @@ brought_fits a destination (p ∷ ps) h e =
     let count : suc (length ps) ≡ packet_count (length bytes) = ap length e ∙ length_packets a (message_to destination bytes) in
     fits bytes (omega arith) (omega arith)
 
+-- a carrier stores at most 66 packets
+pub few_stored : (s : SmbusCarrier) → length (take s.count s.row) ≤ 66
+few_stored s = omega (arith, length-take s.count s.row, s.few)
+
 -- what lies on the carrier fits
 pub line_fits : (s : SmbusCarrier) → lying_fits (line_of s).message ≡ true
-line_fits s = brought_fits s.addresses s.destination (stored s.packets) (omega (arith, length-map s.packets.items held, s.few)) s.defined
+line_fits s = brought_fits s.addresses s.destination (stored s.count s.row) (omega (arith, length-map (take s.count s.row) held, few_stored s)) s.defined
 
 -- the packets of what lies there are the stored ones
 pub packets_stored : (a : Addresses) (destination : ℕ) (ps : List Bytes) → Defined a destination ps → packets_of a (brought destination ps) ≡ ps
@@ -72,13 +75,13 @@ payloads_lying a None = refl
 payloads_lying a (Some m) = payloads_join a m
 
 -- the packets that a carrier stores are those of what lies there
-pub shown : (s : SmbusCarrier) → packets_on s.addresses (line_of s) ≡ stored s.packets
-shown s = packets_stored s.addresses s.destination (stored s.packets) s.defined
+pub shown : (s : SmbusCarrier) (row : List Packet) → row ≡ take s.count s.row → packets_on s.addresses (line_of s) ≡ map held row
+shown s row e = packets_stored s.addresses s.destination (stored s.count s.row) s.defined ∙ sym (ap (map held) e)
 
 -- the packet of a number is the one that is stored there
-pub shown_at : (s : SmbusCarrier) (row : List Packet) (number : ℕ) (p : Packet) → row ≡ s.packets.items → number < length row → p ≡ slice_index_or row number p → slice_index_or (packets_on s.addresses (line_of s)) number [] ≡ held p
+pub shown_at : (s : SmbusCarrier) (row : List Packet) (number : ℕ) (p : Packet) → row ≡ take s.count s.row → number < length row → p ≡ slice_index_or row number p → slice_index_or (packets_on s.addresses (line_of s)) number [] ≡ held p
 shown_at s row number p r lt e =
-    ap (λ (ps : List Bytes). slice_index_or ps number []) (shown s ∙ sym (ap (map held) r))
+    ap (λ (ps : List Bytes). slice_index_or ps number []) (shown s row r)
     ∙ get_or-map held row number p [] lt
     ∙ ap held (sym e)
 
@@ -88,15 +91,15 @@ unfolding packet
 copied_packet a m number = refl
 
 -- and so has each that is stored
-pub copied_stored : (s : SmbusCarrier) (number : ℕ) (p : Bytes) → number < length (stored s.packets) → slice_index_or (packets_on s.addresses (line_of s)) number [] ≡ p → copied_length p ≡ Some (length p)
+pub copied_stored : (s : SmbusCarrier) (number : ℕ) (p : Bytes) → number < length (stored s.count s.row) → slice_index_or (packets_on s.addresses (line_of s)) number [] ≡ p → copied_length p ≡ Some (length p)
 unfolding packets
 copied_stored s number p lt e =
-    let m = message_to s.destination (payloads (stored s.packets)) in
+    let m = message_to s.destination (payloads (stored s.count s.row)) in
     let count = packet_count (length m.bytes) in
     let here : number < count = omega (arith, ap length s.defined, length_packets s.addresses m) in
     let is : packet s.addresses m number ≡ p =
     sym (get_or-map-range_with_len (packet s.addresses m) 0 count number number [] here (zero-add number))
-    ∙ sym (ap (λ (ps : List Bytes). slice_index_or ps number []) (shown s ∙ s.defined))
+    ∙ sym (ap (λ (ps : List Bytes). slice_index_or ps number []) (shown s (take s.count s.row) refl ∙ s.defined))
     ∙ e in
     let P : Bytes → Type 0 = λ b. copied_length b ≡ Some (length b) in subst P is (copied_packet s.addresses m number)
 

@@ -14,7 +14,7 @@ addressed destination source id = record { destination = destination; source = s
 
 -- the line of the carrier: what lies there is what the stored packets bring
 abbrev pub line_of : SmbusCarrier → Line
-line_of s = linked s.up (brought s.destination (stored s.packets))
+line_of s = linked s.up (brought s.destination (stored s.count s.row))
 
 -- the carrier: its addresses, and its line
 pub record Seen : Type 0 where

@@ -1,6 +1,5 @@
--- What the SMBus carrier stores. Assumes nothing.
-use Rattle.std.specs.Prelude.{◌≡◌, ℕ, List, map}
-use Rattle.arrayvec.specs.ArrayVec.{ArrayVec}
+-- What the rows of the SMBus carrier stand for. Assumes nothing.
+use Rattle.std.specs.Prelude.{◌≡◌, ℕ, ◌+◌, List, map, take}
 use Rattle.event.specs.Bytes.{Bytes}
 use Rattle.carrier.specs.Carriers.{message_to}
 use Rattle.smbus.specs.Packets.{packets, payloads}
@@ -9,11 +8,11 @@ use Rattle.smbus.specs.declared.packet.Packet.{Packet}
 
 -- the bytes of a packet
 abbrev pub held : Packet → Bytes
-held p = p.bytes.items
+held p = take (8 + p.len + 1) p.bytes
 
--- the packets that are stored
-abbrev pub stored : ArrayVec Packet → List Bytes
-stored packets = map held packets.items
+-- the packets that are stored: the first so many of a row
+abbrev pub stored : (count : ℕ) → List Packet → List Bytes
+stored count row = map held (take count row)
 
 -- every packet is the defined one of the message that they bring
 abbrev pub Defined : Addresses → (destination : ℕ) → List Bytes → Type 0

@@ -1,5 +1,5 @@
 //! The calls of the SMBus carrier.
-ghost use Rattle.std.specs.Prelude.{◌≡◌, ◌≤◌, length};
+ghost use Rattle.std.specs.Prelude.{◌≡◌, ◌≤◌, length, take};
 ghost use Rattle.event.specs.Bytes.{placed};
 ghost use Rattle.carrier.specs.Carriers.{takes, after_put, withdrawn, linked_up, linked_down};
 ghost use Rattle.smbus.specs.Packets.{packets_on, chosen, copied_length, PayloadsJoin};
@@ -7,9 +7,8 @@ ghost use Rattle.smbus.specs.Seen.{addressed, line_of, seen_if, made};
 ghost use Rattle.smbus.specs.Lying.{line_fits};
 
 use crate::bus::SmbusCarrier;
-use crate::packet::Addresses;
+use crate::packet::{Addresses, Packet};
 use crate::packing::{join, split};
-use arrayvec::ArrayVec;
 use carrier::{Carrier, fits};
 use event::refusal::Refusal;
 
@@ -34,8 +33,17 @@ impl SmbusCarrier {
             },
             up: true,
             destination: 0,
-            packets: ArrayVec::new(),
+            count: 0,
+            // Not one packet copied 66 times, which takes hundreds of times as long.
+            row: Default::default(),
         })
+    }
+
+    /// The packets that are stored.
+    fn stored(&self) -> &[Packet]
+        ensures { result.now ≡ take self.now.count self.now.row }
+    {
+        &self.row[0..self.count]
     }
 
     /// How many packets the message has that lies there: none, if none does. Their payloads, joined in the order of
@@ -45,7 +53,7 @@ impl SmbusCarrier {
         ensures few { result ≤ 66 }
         ensures joined { PayloadsJoin self.now.addresses (line_of self.now) }
     {
-        self.packets.len()
+        self.stored().len()
     }
 
     /// Copies the packet of this number, from 0 on, to the start of a buffer, and says how long it is. If there is no
@@ -54,7 +62,7 @@ impl SmbusCarrier {
         ensures count { result ≡ copied_length (chosen (packets_on self.now.addresses (line_of self.now)) number (length buffer.old)) }
         ensures buffer { buffer.new ≡ placed buffer.old 0 (chosen (packets_on self.now.addresses (line_of self.now)) number (length buffer.old)) }
     {
-        let bytes = self.packets.get(number)?.as_bytes();
+        let bytes = self.stored().get(number)?.as_bytes();
         let len = bytes.len();
         if buffer.len() < len {
             return None;
@@ -81,7 +89,7 @@ impl Carrier for SmbusCarrier {
         if !self.up || !fits(message) {
             return false;
         }
-        split(self.addresses, destination, message, &mut self.packets);
+        self.count = split(self.addresses, destination, message, &mut self.row);
         self.destination = destination;
         true
     }
@@ -90,7 +98,7 @@ impl Carrier for SmbusCarrier {
         ensures after { line_of self.new ≡ withdrawn (line_of self.old) }
         ensures kept { self.new.addresses ≡ self.old.addresses }
     {
-        self.packets.clear();
+        self.count = 0;
     }
 
     // The trait's body does not say that the addresses stay.
@@ -120,9 +128,9 @@ impl Carrier for SmbusCarrier {
         if buffer.len() < 4224 {
             return Err(Refusal::MessageBufferShort);
         }
-        if self.packets.is_empty() {
+        if self.count == 0 {
             return Err(Refusal::NoMessage);
         }
-        Ok(join(&self.packets, buffer))
+        Ok(join(self.stored(), buffer))
     }
 }

@@ -1,5 +1,5 @@
 //! SMBus packets, each with up to 64 bytes of a message.
-use arrayvec::ArrayVec;
+ghost use Rattle.std.specs.Prelude.{◌≡◌, ◌≤◌, length};
 
 /// From where to where packets go.
 // That both addresses are below 128 is a fact of the carrier: definitions and theorems speak of any addresses.
@@ -13,8 +13,11 @@ pub struct Addresses {
     pub id: u8,
 }
 
-/// One packet: a header of eight bytes, up to 64 bytes of payload, and CRC-8 over both.
-#[derive(Default, Drop)]
+/// One packet: a header of eight bytes, so many bytes of payload, at most 64, and CRC-8 over both.
+#[derive(Clone, Copy)]
 pub(crate) struct Packet {
-    pub(crate) bytes: ArrayVec<u8, 73>,
+    pub(crate) len: usize,
+    pub(crate) bytes: [u8; 73],
+    ghost short: { len ≤ 64 },
+    ghost whole: { length bytes ≡ 73 },
 }

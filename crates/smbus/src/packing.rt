@@ -1,13 +1,37 @@
 //! From a message to its packets and back.
-ghost use Rattle.std.specs.Prelude.{◌≡◌, ◌+◌, ◌*◌, ◌<◌, ◌≤◌, ◌++◌, map, length};
+ghost use Rattle.std.specs.Prelude.{◌≡◌, ◌+◌, ◌*◌, ◌<◌, ◌≤◌, ◌++◌, map, length, take};
 ghost use Rattle.event.specs.Outcomes.{over_front};
 ghost use Rattle.carrier.specs.Carriers.{message_to};
-ghost use Rattle.smbus.specs.Packets.{flags as flags_of, header as header_of, checked, packets as packets_of, payload_of as payload_in, payloads};
+ghost use Rattle.smbus.specs.Packets.{packet_count, flags as flags_of, header as header_of, checked, packets as packets_of, payload_of as payload_in, payloads};
 ghost use Rattle.smbus.specs.Stored.{held, stored};
 
 use crate::packet::{Addresses, Packet};
-use arrayvec::ArrayVec;
 use crc::crc8;
+
+/// Lays a packet into the start of a row.
+fn lay(row: &mut [u8], header: &[u8], payload: &[u8])
+    requires { (length row.old ≡ 73) × ((length header.now ≡ 8) × (length payload.now ≤ 64)) }
+    ensures { take (8 + length payload.now + 1) row.new ≡ checked (header.now ++ payload.now) }
+{
+    let end = 8 + payload.len();
+    row[0..8].copy_from_slice(header);
+    row[8..end].copy_from_slice(payload);
+    let check = crc8(&row[0..end]);
+    row[end] = check;
+}
+
+/// What stands in the places without a packet.
+// Written out, since a derive is refused over a ghost field.
+impl Default for Packet {
+    ghost is_default = { λ p. p.len ≡ 0 };
+
+    fn default() -> Packet {
+        Packet {
+            len: 0,
+            bytes: [0; 73],
+        }
+    }
+}
 
 impl Packet {
     /// The packet of a header and a payload.
@@ -15,19 +39,20 @@ impl Packet {
         requires { length payload.now ≤ 64 }
         ensures { held result ≡ checked (header ++ payload.now) }
     {
-        let mut bytes = ArrayVec::new();
-        bytes.try_extend_from_slice(&header).unwrap();
-        bytes.try_extend_from_slice(payload).unwrap();
-        let check = crc8(&bytes);
-        bytes.push(check);
-        Packet { bytes }
+        let mut bytes = [0u8; 73];
+        lay(&mut bytes, &header, payload);
+        Packet {
+            len: payload.len(),
+            bytes,
+        }
     }
 
     /// The whole packet.
     pub(crate) fn as_bytes(&self) -> &[u8]
         ensures { result.now ≡ held self.now }
     {
-        &self.bytes
+        let end = 8 + self.len + 1;
+        &self.bytes[0..end]
     }
 
     /// Its payload.
@@ -35,10 +60,8 @@ impl Packet {
         ensures part { result.now ≡ payload_in (held self.now) }
         ensures few { length result.now ≤ 64 }
     {
-        match self.bytes.as_slice() {
-            [_, _, _, _, _, _, _, _, payload @ .., _] => payload,
-            _ => &[],
-        }
+        let end = 8 + self.len;
+        &self.bytes[8..end]
     }
 }
 
@@ -77,23 +100,25 @@ fn header(
     ]
 }
 
-/// Splits a message into its packets.
+/// Splits a message into its packets, in the first places of a row, and says how many there are.
 pub(crate) fn split(
     addresses: Addresses,
     destination: u8,
     message: &[u8],
-    packets: &mut ArrayVec<Packet, 66>,
-)
+    row: &mut [Packet],
+) -> usize
     requires low { (addresses.destination < 128) × (addresses.source < 128) }
     requires long { length message.now ≤ 4224 }
-    ensures { stored packets.new ≡ packets_of addresses (message_to destination message.now) }
+    requires whole { length row.old ≡ 66 }
+    ensures count { result ≡ packet_count (length message.now) }
+    ensures all { stored result row.new ≡ packets_of addresses (message_to destination message.now) }
 {
     let count = message.len().div_ceil(64);
-    packets.clear();
     for (number, payload) in message.chunks(64).enumerate() {
         let header = header(addresses, destination, payload.len(), number, count);
-        packets.push(Packet::new(header, payload));
+        row[number] = Packet::new(header, payload);
     }
+    count
 }
 
 /// Joins the payloads of packets at the start of a buffer, and says how many bytes they have.

@@ -7,10 +7,10 @@ use Rattle.smbus.proofs.packing.split.Given as goal
 
 abbrev pub invariant-loop-number : goal.invariant-loop-number
 invariant-loop-number l =
-    let n = length l.packets.items in record {
-      at : l.number-iterator.count ≡ n;
+    let n = l.number-iterator.count in record {
       size : l.number-iterator.iter.size ≡ 64;
       rest : l.number-iterator.iter.rest.now ≡ drop (64 * n) l.message;
       few : n ≤ packet_count (length l.message);
-      made : stored l.packets ≡ map (packet l.addresses (message_to l.destination l.message)) (range_with_len 0 n);
+      whole : length l.row ≡ 66;
+      made : stored n l.row ≡ map (packet l.addresses (message_to l.destination l.message)) (range_with_len 0 n);
     }
