@@ -1,6 +1,6 @@
 -- Unique IDs beside readings, and what a search among the IDs says of the entries. Assumes nothing.
-use Rattle.std.proofs.Common.{◌≡◌, ℕ, zero, suc, ◌+◌, ◌<◌, ◌≤◌, Bool, true, false, cond, leb, List, [], ◌∷◌, ◌++◌, length, get_or, set, Some, None, sym, refl, ap, ◌∙◌, ⊎_elim, arith}
-use Rattle.std.proofs.lemmas.List.{set-get_or, length_push}
+use Rattle.std.proofs.Common.{◌≡◌, ℕ, zero, suc, ◌+◌, ◌<◌, ◌≤◌, Bool, true, false, cond, leb, List, [], ◌∷◌, ◌++◌, length, get_or, take, set, Some, None, sym, refl, ap, ◌∙◌, ⊎_elim, arith}
+use Rattle.std.proofs.lemmas.List.{set-get_or, take_more_set, length-take-le, length_push, get_or-take}
 use Rattle.std.proofs.lemmas.Bool.{cases_Bool, le-leb, lt-leb, cond-true, cond-false}
 use Rattle.keys.specs.Keys.{First, Nowhere}
 use Rattle.event.specs.declared.id.UniqueId.{UniqueId}
@@ -10,7 +10,6 @@ use Rattle.event.specs.Sources.{Occurrence, occurrence, same_id}
 use Rattle.event.specs.View.{held}
 use Rattle.event.proofs.SameId.{same_id_test}
 use Rattle.board.specs.Boards.{at}
-use Rattle.board.proofs.Rereads.{at_past}
 use Rattle.protocol.specs.Book.{find, enter, merge}
 use Rattle.book.specs.declared.table.Table.{Table}
 use Rattle.book.specs.Tables.{paired, rows, entered}
@@ -41,6 +40,13 @@ paired-set (x ∷ ks) [] (suc i) k r = refl
 paired-set (x ∷ ks) (y ∷ rs) zero k r = refl
 paired-set (x ∷ ks) (y ∷ rs) (suc i) k r = λ t. occurrence x (held y) ∷ paired-set ks rs i k r t
 
+take-paired : (n : ℕ) (ks : List UniqueId) (rs : List Reading) → take n (paired ks rs) ≡ paired (take n ks) (take n rs)
+unfolding paired
+take-paired zero ks rs = refl
+take-paired (suc n) [] rs = refl
+take-paired (suc n) (k ∷ ks) [] = refl
+take-paired (suc n) (k ∷ ks) (r ∷ rs) = λ t. occurrence k (held r) ∷ take-paired n ks rs t
+
 length-paired : (ks : List UniqueId) (rs : List Reading) (n : ℕ) → length ks ≡ n → length rs ≡ n → length (paired ks rs) ≡ n
 unfolding paired
 length-paired [] rs n p q = p
@@ -48,12 +54,11 @@ length-paired (k ∷ ks) [] n p q = absurd (omega arith)
 length-paired (k ∷ ks) (r ∷ rs) zero p q = absurd (omega arith)
 length-paired (k ∷ ks) (r ∷ rs) (suc n) p q = ap suc (length-paired ks rs n (omega arith) (omega arith))
 
-paired-push : (ks : List UniqueId) (rs : List Reading) (k : UniqueId) (r : Reading) → length rs ≡ length ks → paired (ks ++ k ∷ []) (rs ++ r ∷ []) ≡ paired ks rs ++ (occurrence k (held r) ∷ [])
-unfolding paired
-paired-push [] [] k r e = refl
-paired-push [] (y ∷ rs) k r e = absurd (omega arith)
-paired-push (x ∷ ks) [] k r e = absurd (omega arith)
-paired-push (x ∷ ks) (y ∷ rs) k r e = λ t. occurrence x (held y) ∷ paired-push ks rs k r (omega arith) t
+take_set_in : {X : Type 0} (n : ℕ) (l : List X) (i : ℕ) (a : X) → take n (set l i a) ≡ set (take n l) i a
+take_set_in zero l i a = refl
+take_set_in (suc n) [] i a = refl
+take_set_in (suc n) (x ∷ l) zero a = refl
+take_set_in (suc n) (x ∷ l) (suc i) a = λ t. x ∷ take_set_in n l i a t
 
 -- WHAT A SEARCH SAYS
 
@@ -74,7 +79,7 @@ enter_nowhere o (k ∷ ks) (r ∷ rs) e f =
     cond-false (same_id o.id k) _ _ (same_false o.id k (f 0 k (omega arith)))
     ∙ ap (λ (l : List Occurrence). occurrence k (held r) ∷ l) (enter_nowhere o ks rs (omega arith) (nowhere_later k ks o.id f))
 
-pub find_first : (u : UniqueId) (ks : List UniqueId) (rs : List Reading) (i : ℕ) (d : Reading) → length ks ≡ length rs → First ks u i → find u (paired ks rs) ≡ Some (held (get_or rs i d))
+find_first : (u : UniqueId) (ks : List UniqueId) (rs : List Reading) (i : ℕ) (d : Reading) → length ks ≡ length rs → First ks u i → find u (paired ks rs) ≡ Some (held (get_or rs i d))
 unfolding paired find
 find_first u [] rs i d e f = let h = f.inside in absurd (omega arith)
 find_first u (k ∷ ks) [] i d e f = absurd (omega arith)
@@ -82,7 +87,7 @@ find_first u (k ∷ ks) (r ∷ rs) zero d e f = cond-true (same_id u k) _ _ (sam
 find_first u (k ∷ ks) (r ∷ rs) (suc i) d e f =
     cond-false (same_id u k) _ _ (same_false u k (f.before 0 k (omega arith))) ∙ find_first u ks rs i d (omega arith) (first-later k ks u i f)
 
-pub find_nowhere : (u : UniqueId) (ks : List UniqueId) (rs : List Reading) → length ks ≡ length rs → Nowhere ks u → find u (paired ks rs) ≡ None
+find_nowhere : (u : UniqueId) (ks : List UniqueId) (rs : List Reading) → length ks ≡ length rs → Nowhere ks u → find u (paired ks rs) ≡ None
 unfolding paired find
 find_nowhere u [] rs e f = refl
 find_nowhere u (k ∷ ks) [] e f = absurd (omega arith)
@@ -117,34 +122,61 @@ entered-over o es h = cond-false (leb (length (enter o es)) 64) _ _ (lt-leb _ 64
 
 -- THE TABLE
 
--- as many readings as unique IDs, in which the search was made
-module _ (ks : List UniqueId) (rs : List Reading) (level : length rs ≡ length ks) where
-  pub length-rows : length (paired ks rs) ≡ length ks
-  length-rows = length-paired ks rs (length ks) refl level
+-- two rows of 64, of which the first n count; the search was made in the first n IDs
+module _ (ks : List UniqueId) (rs : List Reading) (n : ℕ) (few : n ≤ 64) (keyed : length ks ≡ 64) (read : length rs ≡ 64) where
+  level : length (take n ks) ≡ length (take n rs)
+  level = length-take-le n ks (omega arith) ∙ sym (length-take-le n rs (omega arith))
+
+  pub length-rows : length (take n (paired ks rs)) ≡ n
+  length-rows = length-take-le n (paired ks rs) (omega (arith, length-paired ks rs 64 keyed read))
 
   -- the reading at a found place is written over
-  pub replaced : (i : ℕ) (o : Occurrence) (r : Reading) → o.reading ≡ held r → First ks o.id i → paired ks (set rs i r) ≡ enter o (paired ks rs)
+  pub replaced : (i : ℕ) (o : Occurrence) (r : Reading) → o.reading ≡ held r → First (take n ks) o.id i → take n (paired ks (set rs i r)) ≡ enter o (take n (paired ks rs))
   replaced i o r e f =
-      ap (λ (l : List UniqueId). paired l (set rs i r)) (sym (ap (set ks i) (sym (f.here o.id)) ∙ set-get_or ks i o.id))
-      ∙ paired-set ks rs i o.id r
-      ∙ ap (λ (b : Bytes). set (paired ks rs) i (occurrence o.id b)) (sym e)
-      ∙ sym (enter-first o ks rs i (sym level) f)
+      let inside : i < n = let h = f.inside in omega (arith, length-take-le n ks (omega arith)) in
+      let there : get_or ks i o.id ≡ o.id = sym (get_or-take n ks i o.id inside) ∙ f.here o.id in
+      let same : set ks i o.id ≡ ks = ap (set ks i) (sym there) ∙ set-get_or ks i o.id in
+      ap (λ (l : List UniqueId). take n (paired l (set rs i r))) (sym same)
+      ∙ ap (take n) (paired-set ks rs i o.id r)
+      ∙ ap (λ (b : Bytes). take n (set (paired ks rs) i (occurrence o.id b))) (sym e)
+      ∙ take_set_in n (paired ks rs) i o
+      ∙ ap (λ (l : List Occurrence). set l i o) (take-paired n ks rs)
+      ∙ sym (enter-first o (take n ks) (take n rs) i level f)
+      ∙ ap (enter o) (sym (take-paired n ks rs))
 
   -- an entry is added behind the others
-  pub added : (o : Occurrence) (r : Reading) → o.reading ≡ held r → Nowhere ks o.id → paired (ks ++ o.id ∷ []) (rs ++ r ∷ []) ≡ enter o (paired ks rs)
-  added o r e f =
-      paired-push ks rs o.id r level
-      ∙ ap (λ (b : Bytes). paired ks rs ++ (occurrence o.id b ∷ [])) (sym e)
-      ∙ sym (enter_nowhere o ks rs (sym level) f)
+  pub added : (o : Occurrence) (r : Reading) → o.reading ≡ held r → n < 64 → Nowhere (take n ks) o.id → take (n + 1) (paired (set ks n o.id) (set rs n r)) ≡ enter o (take n (paired ks rs))
+  added o r e h f =
+      ap (take (n + 1)) (paired-set ks rs n o.id r)
+      ∙ ap (λ (b : Bytes). take (n + 1) (set (paired ks rs) n (occurrence o.id b))) (sym e)
+      ∙ take_more_set (paired ks rs) n o (omega (arith, length-paired ks rs 64 keyed read))
+      ∙ ap (λ (l : List Occurrence). l ++ (o ∷ [])) (take-paired n ks rs)
+      ∙ sym (enter_nowhere o (take n ks) (take n rs) level f)
+      ∙ ap (enter o) (sym (take-paired n ks rs))
 
   -- then there is one entry more
-  pub more : (o : Occurrence) → Nowhere ks o.id → length (enter o (paired ks rs)) ≡ length ks + 1
-  more o f = ap length (enter_nowhere o ks rs (sym level) f) ∙ length_push (paired ks rs) o ∙ ap (λ (k : ℕ). k + 1) length-rows
+  pub more : (o : Occurrence) → Nowhere (take n ks) o.id → length (enter o (take n (paired ks rs))) ≡ n + 1
+  more o f =
+      ap (λ (l : List Occurrence). length (enter o l)) (take-paired n ks rs)
+      ∙ ap length (enter_nowhere o (take n ks) (take n rs) level f)
+      ∙ length_push (paired (take n ks) (take n rs)) o
+      ∙ ap (λ (l : List Occurrence). length l + 1) (sym (take-paired n ks rs))
+      ∙ ap (λ (k : ℕ). k + 1) length-rows
+
+  -- the reading at a found place is the one that is entered
+  pub seen : (i : ℕ) (u : UniqueId) (d : Reading) → First (take n ks) u i → find u (take n (paired ks rs)) ≡ Some (held (get_or rs i d))
+  seen i u d f =
+      let inside : i < n = let h = f.inside in omega (arith, length-take-le n ks (omega arith)) in
+      ap (find u) (take-paired n ks rs) ∙ find_first u (take n ks) (take n rs) i d level f ∙ ap (λ (r : Reading). Some (held r)) (get_or-take n rs i d inside)
+
+  -- what stands nowhere is not entered
+  pub unseen : (u : UniqueId) → Nowhere (take n ks) u → find u (take n (paired ks rs)) ≡ None
+  unseen u f = ap (find u) (take-paired n ks rs) ∙ find_nowhere u (take n ks) (take n rs) level f
 
 -- a table has at most 64 entries
 pub few-rows : (t : Table) → length (rows t) ≤ 64
 unfolding rows
-few-rows t = let h = length-rows t.keys.items t.readings.items t.level in let k = t.few in omega arith
+few-rows t = let h = length-rows t.keys t.readings t.len t.few t.keyed t.read in let k = t.few in omega arith
 
 -- MERGING, STEP BY STEP
 
@@ -158,20 +190,32 @@ merge_end es ls e = ap (merge es) e
 
 -- ENTRIES BY PLACE
 
-at-paired : (ks : List UniqueId) (rs : List Reading) (place : ℕ) (u : UniqueId) (r : Reading)
-    → place < length ks → place < length rs → at (paired ks rs) place ≡ Some (occurrence (get_or ks place u) (held (get_or rs place r)))
+at_take : (n : ℕ) (es : List Occurrence) (place : ℕ) → n ≤ place → at (take n es) place ≡ None
+unfolding at
+at_take zero es place h = refl
+at_take (suc n) [] place h = refl
+at_take (suc n) (e ∷ es) zero h = absurd (omega arith)
+at_take (suc n) (e ∷ es) (suc place) h = at_take n es place (omega arith)
+
+at-paired : (n : ℕ) (ks : List UniqueId) (rs : List Reading) (place : ℕ) (u : UniqueId) (r : Reading)
+    → place < n → place < length ks → place < length rs → at (take n (paired ks rs)) place ≡ Some (occurrence (get_or ks place u) (held (get_or rs place r)))
 unfolding at paired
-at-paired [] rs place u r i j = absurd (omega arith)
-at-paired (k ∷ ks) [] place u r i j = absurd (omega arith)
-at-paired (k ∷ ks) (x ∷ rs) zero u r i j = refl
-at-paired (k ∷ ks) (x ∷ rs) (suc place) u r i j = at-paired ks rs place u r (omega arith) (omega arith)
+at-paired zero ks rs place u r h i j = absurd (omega arith)
+at-paired (suc n) [] rs place u r h i j = absurd (omega arith)
+at-paired (suc n) (k ∷ ks) [] place u r h i j = absurd (omega arith)
+at-paired (suc n) (k ∷ ks) (x ∷ rs) zero u r h i j = refl
+at-paired (suc n) (k ∷ ks) (x ∷ rs) (suc place) u r h i j = at-paired n ks rs place u r (omega arith) (omega arith) (omega arith)
 
 -- past the last entry there is none
-pub no_row : (t : Table) (place : ℕ) → length t.keys.items ≤ place → at (rows t) place ≡ None
+pub no_row : (t : Table) (place : ℕ) → t.len ≤ place → at (rows t) place ≡ None
 unfolding rows
-no_row t place h = at_past (paired t.keys.items t.readings.items) place (omega (arith, length-rows t.keys.items t.readings.items t.level))
+no_row t place h = at_take t.len (paired t.keys t.readings) place h
 
 -- an entry is the unique ID and the reading at its place
-pub row_at : (t : Table) (place : ℕ) (u : UniqueId) (r : Reading) → place < length t.keys.items → at (rows t) place ≡ Some (occurrence (get_or t.keys.items place u) (held (get_or t.readings.items place r)))
+pub row_at : (t : Table) (place : ℕ) (u : UniqueId) (r : Reading) → place < t.len → at (rows t) place ≡ Some (occurrence (get_or t.keys place u) (held (get_or t.readings place r)))
 unfolding rows
-row_at t place u r h = let level = t.level in at-paired t.keys.items t.readings.items place u r h (omega arith)
+row_at t place u r h =
+    let few = t.few in
+    let keyed = t.keyed in
+    let read = t.read in
+    at-paired t.len t.keys t.readings place u r h (omega arith) (omega arith)

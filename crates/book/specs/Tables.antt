@@ -1,5 +1,5 @@
 -- What the table holds. Assumes nothing.
-use Rattle.std.specs.Prelude.{cond, List, [], ◌∷◌, length, nat_le}
+use Rattle.std.specs.Prelude.{cond, List, [], ◌∷◌, length, take, nat_le}
 use Rattle.event.specs.declared.id.UniqueId.{UniqueId}
 use Rattle.event.specs.declared.reading.Reading.{Reading}
 use Rattle.event.specs.Sources.{Occurrence, occurrence}
@@ -15,7 +15,7 @@ paired (k ∷ ks) (r ∷ rs) = occurrence k (held r) ∷ paired ks rs
 
 -- the entries of a table
 unfoldable pub rows : Table → List Occurrence
-rows t = paired t.keys.items t.readings.items
+rows t = take t.len (paired t.keys t.readings)
 
 -- the entries after one was entered, unless it were the 65th
 unfoldable pub entered : Occurrence → List Occurrence → List Occurrence

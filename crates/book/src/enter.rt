@@ -8,7 +8,6 @@ ghost use Rattle.book.specs.Tables.{rows, entered};
 ghost use Rattle.book.specs.View.{occurrence_if};
 
 use crate::table::Table;
-use arrayvec::ArrayVec;
 use event::id::UniqueId;
 use event::occurrence::Occurrence;
 use event::reading::Reading;
@@ -21,24 +20,24 @@ impl Table {
         ensures { rows result ≡ [] }
     {
         Table {
-            keys: ArrayVec::new(),
-            readings: ArrayVec::new(),
+            keys: Default::default(),
+            readings: Default::default(),
+            len: 0,
         }
     }
 
-    // Removes all entries.
+    // Removes all entries. What the arrays hold stays there, and counts no longer.
     pub(crate) fn clear(&mut self)
         ensures { rows self.new ≡ [] }
     {
-        self.keys.clear();
-        self.readings.clear();
+        self.len = 0;
     }
 
     // The reading that is entered for a source.
     pub(crate) fn get(&self, id: UniqueId) -> Option<Reading>
         ensures { held_if result ≡ entry_of id (rows self.now) }
     {
-        let i = find(self.keys.as_slice(), &id)?;
+        let i = find(&self.keys[0..self.len], &id)?;
         Some(self.readings[i])
     }
 
@@ -46,7 +45,7 @@ impl Table {
     pub(crate) fn at(&self, place: usize) -> Option<Occurrence>
         ensures { occurrence_if result ≡ in_place (rows self.now) place }
     {
-        if place >= self.keys.len() {
+        if place >= self.len {
             return None;
         }
         Some(Occurrence {
@@ -60,15 +59,16 @@ impl Table {
         ensures fits { result ≡ nat_le (length (with_entry (occurrence_of occurrence) (rows self.old))) 64 }
         ensures rows { rows self.new ≡ entered (occurrence_of occurrence) (rows self.old) }
     {
-        match find(self.keys.as_slice(), &occurrence.id) {
+        match find(&self.keys[0..self.len], &occurrence.id) {
             Some(i) => {
                 self.readings[i] = occurrence.reading;
                 true
             }
-            None if self.keys.is_full() => false,
+            None if self.len >= 64 => false,
             None => {
-                self.keys.push(occurrence.id);
-                self.readings.push(occurrence.reading);
+                self.keys[self.len] = occurrence.id;
+                self.readings[self.len] = occurrence.reading;
+                self.len += 1;
                 true
             }
         }
