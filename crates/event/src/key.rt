@@ -14,9 +14,11 @@ impl Key for UniqueId {
 
     ghost bucket = { λ u. fold bit_xor (bit_xor u.identifier u.scope) (to_le_bytes w32 u.info) };
 
-    ghost ordered = { Prim.search rules };
-
     ghost same = { Prim.search rules };
+
+    ghost turned = { Prim.search rules };
+
+    ghost chain = { Prim.search rules };
 
     fn compare(&self, other: &UniqueId) -> Ordering {
         self.cmp(other)

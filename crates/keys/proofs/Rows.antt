@@ -1,9 +1,10 @@
--- Whether a key stands in a row twice, by its places. Assumes nothing.
-use Rattle.std.proofs.Common.{◌≡◌, ◌≢◌, ℕ, zero, suc, ◌<◌, Bool, true, false, eqb, List, [], ◌∷◌, length, slice_index_or, Decides, refl, arith}
-use Rattle.std.proofs.lemmas.Bool.{false_from_ne_true, or_from, or_left, or_right}
+-- Whether a key is among those of a row, as a search tells, and whether one stands there twice, by its places. Assumes
+-- nothing.
+use Rattle.std.proofs.Common.{◌≡◌, ◌≢◌, ℕ, zero, suc, ◌<◌, Bool, true, false, eqb, List, [], ◌∷◌, length, slice_index_or, is_some, Option, Some, None, Decides, sym, refl, ⊎_elim, arith}
+use Rattle.std.proofs.lemmas.Bool.{cases_Bool, false_from_ne_true, or_from, or_left, or_right}
 use Rattle.std.proofs.lemmas.Bool.Decides.{Decides-eqb, Decides-by_or}
 use Rattle.std.specs.List.{HoldsAt}
-use Rattle.keys.specs.Keys.{Test, among, twice}
+use Rattle.keys.specs.Keys.{Test, Sought, among, twice}
 
 -- numbers are told apart by `eqb`
 pub number_test : Test eqb
@@ -14,6 +15,16 @@ pub among_stands : {K : Type 0} (same : K → K → Bool) → Test same → (key
 unfolding among
 among_stands same test keys key =
     Decides-by_or (same key) (λ x. key ≡ x) (among same key) (test key) refl (λ _ _. refl) keys
+
+-- a search finds a place exactly if the key is among those of the row
+pub sought_among : {K : Type 0} (same : K → K → Bool) → Test same → (keys : List K) (key : K) (r : Option ℕ) → Sought keys key r → among same key keys ≡ is_some r
+sought_among same test keys key None nowhere =
+    ⊎_elim
+    (λ e. let s = (among_stands same test keys key).0 e in absurd (nowhere s.0 key s.1 (sym (s.2 key))))
+    (λ e. e)
+    (cases_Bool (among same key keys))
+sought_among same test keys key (Some place) first =
+    (among_stands same test keys key).1 (place, first.inside, λ d. sym (first.here d))
 
 -- if no two places of a row have one key, no key stands there twice
 pub apart_once : {K : Type 0} (same : K → K → Bool) → Test same → (keys : List K) → ((k : ℕ) → k < length keys → (j : ℕ) → j < k → (d : K) → slice_index_or keys j d ≢ slice_index_or keys k d) → twice same keys ≡ false

@@ -2,15 +2,16 @@
 #![tactic(auto)]
 
 ghost use Rattle.std.specs.Prelude.{◌≡◌, ℕ, Bool, true, false};
+ghost use Rattle.std.specs.declared.cmp.Ordering.TheVariants.{Less};
 ghost use Rattle.std.specs.declared.cmp.Ordering.{Ordering};
-ghost use Rattle.std.specs.Ordering.{is_eq, nat_cmp};
+ghost use Rattle.std.specs.Ordering.{is_eq, ordering_reverse, nat_cmp};
 ghost use Rattle.keys.specs.Keys.{Sought, Test, twice};
 ghost use Rattle.std.proofs.Common.{rules};
 
 use std::cmp::Ordering;
 
 /// A kind of key: values in a total order, in which two are equal exactly if they are the same value.
-pub trait Key: Ord {
+pub trait Key: Sized {
     /// How the first key compares with the second.
     ghost order: { Self → Self → Ordering };
 
@@ -26,11 +27,14 @@ pub trait Key: Ord {
     fn bucket(&self) -> u8
         ensures { result ≡ bucket self.now };
 
-    /// The order is that of the type, and so total: exchanging the keys reverses the answer, and "less" chains.
-    ghost ordered: { (x y : Self) → Self.cmp x y ≡ order x y };
-
     /// Two keys are equal in the order exactly if they are the same.
     ghost same: { Test (λ x y. is_eq (order x y)) };
+
+    /// With the two keys exchanged, the answer is reversed.
+    ghost turned: { (x y : Self) → order y x ≡ ordering_reverse (order x y) };
+
+    /// A key that is less than a second, which is less than a third, is less than the third.
+    ghost chain: { (x y z : Self) → order x y ≡ Less → order y z ≡ Less → order x z ≡ Less };
 }
 
 /// Bytes, by their number.
@@ -39,9 +43,11 @@ impl Key for u8 {
 
     ghost bucket = { λ byte. byte };
 
-    ghost ordered = { Prim.search rules };
-
     ghost same = { Prim.search rules };
+
+    ghost turned = { Prim.search rules };
+
+    ghost chain = { Prim.search rules };
 
     fn compare(&self, other: &u8) -> Ordering {
         self.cmp(other)
