@@ -1,5 +1,5 @@
 //! The table board: sources from rows.
-ghost use Rattle.std.specs.Prelude.{◌≡◌, true, map};
+ghost use Rattle.std.specs.Prelude.{◌≡◌, ◌≤◌, true, map, length};
 ghost use Rattle.event.specs.Sources.{lawful_occurrence, all_lawful};
 ghost use Rattle.event.specs.View.{occurrence_of};
 ghost use Rattle.board.specs.Boards.{lawful_board};
@@ -28,16 +28,17 @@ impl TableBoard {
     pub fn new(rows: &[Occurrence]) -> Result<TableBoard, Refusal>
         ensures { told_if table_told result ≡ board_of (row_refusal (rows_told rows.now)) (rows_told rows.now) }
     {
-        if rows.is_empty() {
+        if !(1..=64).contains(&rows.len()) {
             return Err(Refusal::RowCount);
         }
-        let rows = ArrayVec::try_from(rows).map_err(|_| Refusal::RowCount)?;
-        if !all_lawful(&rows) {
+        if !all_lawful(rows) {
             return Err(Refusal::UnlawfulRow);
         }
-        if has_twice(&ids(&rows)) {
+        if has_twice(&ids(rows)) {
             return Err(Refusal::RowTwice);
         }
+        // Copied last, so that a refusal copies no row. There are 64 at most, so that they fit.
+        let rows = ArrayVec::try_from(rows).map_err(|_| Refusal::RowCount)?;
         Ok(TableBoard { rows })
     }
 }
@@ -93,11 +94,12 @@ fn is_lawful(row: &Occurrence) -> bool
 
 // The rows' unique IDs, as the search for a key takes them. A loop: `extend` may find the vector full, and would have to
 // be asked whether it did.
-fn ids(rows: &ArrayVec<Occurrence, 64>) -> ArrayVec<UniqueId, 64>
-    ensures { result.items ≡ map (λ row. row.id) rows.now.items }
+fn ids(rows: &[Occurrence]) -> ArrayVec<UniqueId, 64>
+    requires { length rows.now ≤ 64 }
+    ensures { result.items ≡ map (λ row. row.id) rows.now }
 {
     let mut ids = ArrayVec::new();
-    for row in rows.iter() {
+    for row in rows {
         ids.push(row.id);
     }
     ids

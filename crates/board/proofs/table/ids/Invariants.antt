@@ -3,4 +3,4 @@ use Rattle.std.proofs.Common.{◌≡◌, map, take}
 use Rattle.board.proofs.table.ids.Given as goal
 
 abbrev pub invariant-loop-row : goal.invariant-loop-row
-invariant-loop-row l = l.ids.items ≡ map (λ row. row.id) (take l.row-index l.rows.items)
+invariant-loop-row l = l.ids.items ≡ map (λ row. row.id) (take l.row-index l.rows)
