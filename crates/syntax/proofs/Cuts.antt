@@ -1,11 +1,12 @@
 -- A line that is cut into its pieces, and words that are joined. Assumes nothing.
-use Rattle.std.proofs.Common.{◌≡◌, ◌==◌, ℕ, ◌+◌, ◌-◌, ◌<◌, ◌≤◌, true, false, eqb, List, [], ◌∷◌, ◌++◌, length, get_or, take, drop, cond, not, Bool, Some, None, one-add, sym, refl, ap, ◌∙◌, append_assoc, append-nil, arith, Bor, ⊎_elim, ltb, ne_eqb}
-use Rattle.std.proofs.lemmas.List.{at_drop_more, at_drop_all, take_all, take_rest}
+use Rattle.std.proofs.Common.{◌≡◌, ℕ, ◌+◌, ◌-◌, ◌<◌, ◌≤◌, true, false, eqb, List, [], ◌∷◌, ◌++◌, length, get_or, take, drop, cond, not, Bool, Some, None, one-add, sym, refl, ap, ◌∙◌, append_assoc, append-nil, arith, Bor, ⊎_elim, ltb}
+use Rattle.std.proofs.lemmas.List.Edits.{between_more, between_none}
+use Rattle.std.proofs.lemmas.List.{at_drop_more, at_drop_all, take_all, take_rest, map_push}
 use Rattle.std.proofs.lemmas.Option.{cond_some, none-some}
-use Rattle.std.proofs.lemmas.Bool.{lt-ltb, cases_lt, cond-true}
-use Rattle.std.specs.List.{position, position_or_len, before_first, slice_split, onto_first, filter}
+use Rattle.std.proofs.lemmas.Bool.{lt-ltb, cases_lt, cond-true, cond-false}
+use Rattle.std.specs.List.{position, position_or_len, before_first, onto_first, between}
 use Rattle.event.specs.Bytes.{Bytes}
-use Rattle.syntax.specs.Lines.{uncommented, blank, word_if, words_from, words_of, texts, led, spaced}
+use Rattle.syntax.specs.Lines.{uncommented, blank, word_if, words_from, texts, led, spaced}
 
 -- what `position` says, by the place that it is
 position_some : (p : ℕ → Bool) (xs : Bytes) (i : ℕ) → Some i ≡ position p xs → i ≡ position_or_len p xs
@@ -83,31 +84,51 @@ led-turn rest d i was mid now inside blanked e =
 pub led_end : (rest : List (Bor Bytes)) (i : ℕ) (text : Bytes) → length rest ≤ i → text ≡ text ++ led (texts (drop i rest))
 led_end rest i text end = sym (ap (λ l. text ++ l) (led_all rest i end) ∙ append-nil text)
 
--- has a part of a line a byte or more?
-abbrev pub some : Bytes → Bool
-some part = not (length part == 0)
-
--- a part before others is a word unless it is empty
-some_first : (part : Bytes) (parts : List Bytes) → filter some (part ∷ parts) ≡ word_if part ++ filter some parts
-some_first [] parts = refl
-some_first (b ∷ bs) parts =
-    ap (λ v. cond (not v) ((b ∷ bs) ∷ filter some parts) (filter some parts)) (ne_eqb (length (b ∷ bs)) 0 (λ e. omega arith))
-
-some_onto : (parts : List Bytes) → filter some (onto [] parts) ≡ filter some parts
-some_onto [] = refl
-some_onto (part ∷ parts) = refl
-
--- the words of a line are its parts between blanks that are not empty
-words-onto : (piece line : Bytes) → filter some (onto piece (slice_split blank line)) ≡ words_from piece line
+-- a blank ends a piece
+blank-here : (piece line : Bytes) (i : ℕ) → i < length line → blank (get_or line i 0) ≡ true → words_from piece (drop i line) ≡ word_if piece ++ words_from [] (drop (i + 1) line)
 unfolding words_from
-words-onto piece [] =
-    ap (λ p. filter some (p ∷ [])) (append-nil piece) ∙ some_first piece [] ∙ append-nil (word_if piece)
-words-onto piece (b ∷ bs) =
-    let parts = slice_split blank bs in
-    elim (blank b) as (λ v. filter some (onto piece (cond v ([] ∷ parts) (onto_first b parts))) ≡ cond v (word_if piece ++ words_from [] bs) (words_from (piece ++ b ∷ []) bs)) [
-      | true ↦ ap (λ p. filter some (p ∷ parts)) (append-nil piece) ∙ some_first piece parts ∙ ap (λ l. word_if piece ++ l) (sym (some_onto parts) ∙ words-onto [] bs)
-      | false ↦ ap (filter some) (onto-onto_first piece b parts) ∙ words-onto (piece ++ b ∷ []) bs
-    ]
+blank-here piece line i inside is =
+    at_drop_more (words_from piece) line i 0 inside
+    ∙ cond-true (blank (get_or line i 0)) (word_if piece ++ words_from [] (drop (i + 1) line)) (words_from (piece ++ get_or line i 0 ∷ []) (drop (i + 1) line)) is
 
-pub words-are : (line : Bytes) → filter some (slice_split blank line) ≡ words_of line
-words-are line = sym (some_onto (slice_split blank line)) ∙ words-onto [] line
+-- another byte goes on in its piece
+pub word_longer : (start : ℕ) (line : Bytes) (i : ℕ) → start ≤ i → i < length line → blank (get_or line i 0) ≡ false → words_from (between start i line) (drop i line) ≡ words_from (between start (i + 1) line) (drop (i + 1) line)
+unfolding words_from
+word_longer start line i from inside is =
+    at_drop_more (words_from (between start i line)) line i 0 inside
+    ∙ cond-false (blank (get_or line i 0)) (word_if (between start i line) ++ words_from [] (drop (i + 1) line)) (words_from (between start i line ++ get_or line i 0 ∷ []) (drop (i + 1) line)) is
+    ∙ ap (λ piece. words_from piece (drop (i + 1) line)) (sym (between_more line start i 0 from inside))
+
+-- the last piece
+word_last : (piece line : Bytes) (i : ℕ) → length line ≤ i → words_from piece (drop i line) ≡ word_if piece
+unfolding words_from
+word_last piece line i end = at_drop_all (words_from piece) line i end
+
+-- a piece with a byte or more is a word
+word_some : (piece : Bytes) → 0 < length piece → word_if piece ≡ piece ∷ []
+word_some [] h = absurd (omega arith)
+word_some (b ∷ bs) h = refl
+
+-- a word was kept at a blank
+pub word_turn : (was now : List Bytes) (line : Bytes) (start i : ℕ) → i < length line → blank (get_or line i 0) ≡ true → now ≡ was ++ word_if (between start i line)
+    → now ++ words_from (between (i + 1) (i + 1) line) (drop (i + 1) line) ≡ was ++ words_from (between start i line) (drop i line)
+word_turn was now line start i inside is e =
+    let piece = between start i line in
+    let left = drop (i + 1) line in
+    ap (λ p. now ++ words_from p left) (between_none line (i + 1))
+    ∙ ap (λ l. l ++ words_from [] left) e
+    ∙ append_assoc was (word_if piece) (words_from [] left)
+    ∙ ap (λ l. was ++ l) (sym (blank-here piece line i inside is))
+
+-- the last word was kept
+pub word_end : (was now : List Bytes) (line : Bytes) (start i : ℕ) → i ≡ length line → now ≡ was ++ word_if (between start (length line) line) → now ≡ was ++ words_from (between start i line) (drop i line)
+word_end was now line start i end e =
+    let h : length line ≤ i = omega arith in
+    e
+    ∙ ap (λ k. was ++ word_if (between start k line)) (sym end)
+    ∙ ap (λ l. was ++ l) (sym (word_last (between start i line) line i h))
+
+-- a word was put behind the others
+pub keep_turn : (was now : List (Bor Bytes)) (piece : Bor Bytes) → 0 < length piece.now → now ≡ was ++ piece ∷ [] → texts now ≡ texts was ++ word_if piece.now
+keep_turn was now piece some e =
+    ap texts e ∙ map_push (λ p. p.now) was piece ∙ ap (λ l. texts was ++ l) (sym (word_some piece.now some))

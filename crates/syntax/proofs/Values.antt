@@ -45,7 +45,7 @@ same_past base limit m n pos same bs =
     ⊎_elim (λ e. ap (λ k. at_most limit (digits_from base k bs)) e) (λ h. digits_past base limit m n pos h.0 h.1 bs) same
 
 -- one digit more, and a number that stays below the top
-pub digit_more : (base limit top before value now i : ℕ) (word : Bytes) → 1 ≤ base → limit < top → i < length word → Some value ≡ digit_in base (get_or word i 0) → now ≡ min (min (before * base) top + value) top
+pub digit_more : (base limit top before value now i : ℕ) (word : Bytes) → 1 ≤ base → limit < top → i < length word → Some value ≡ digit_in base (get_or word i 0) → now ≡ min (before * base + value) top
     → at_most limit (digits_from base now (drop (i + 1) word)) ≡ at_most limit (digits_from base before (drop i word))
 digit_more base limit top before value now i word pos high inside is e =
     let said : ℕ = before * base + value in

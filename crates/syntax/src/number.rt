@@ -57,9 +57,14 @@ fn digit_in(base: u128, byte: u8) -> Option<u8>
     digit(byte).filter(|value| u128::from(*value) < base)
 }
 
+// Past every limit. A number that has come so far stays there, whatever follows: so neither the product nor the sum of a digit can
+// overflow, and no digit has to be asked whether it did.
+const PAST_ANY: u128 = 0x1_0000_0000_0000_0000;
+
 // The number that a word says in a base.
 fn number<T: Unsigned>(base: u128, word: &[u8]) -> Result<T, Fault>
-    requires { 1 ≤ base }
+    requires low { 1 ≤ base }
+    requires high { base ≤ 16 }
     ensures { as_number T.number result ≡ number_of base T.greatest word.now }
 {
     if word.is_empty() {
@@ -68,7 +73,7 @@ fn number<T: Unsigned>(base: u128, word: &[u8]) -> Result<T, Fault>
     let mut value: u128 = 0;
     for byte in word {
         let digit = digit_in(base, *byte).ok_or(Fault::NoNumber)?;
-        value = value.saturating_mul(base).saturating_add(u128::from(digit));
+        value = (value * base + u128::from(digit)).min(PAST_ANY);
     }
     T::try_from(value).map_err(|_| Fault::OutOfRange)
 }

@@ -1,6 +1,6 @@
 //! The words of a line.
-ghost use Rattle.std.specs.Prelude.{◌≡◌, [], IfOk, IsOk, IsOkUnless};
-ghost use Rattle.syntax.specs.Lines.{uncommented, blank, words_of, spaced, texts};
+ghost use Rattle.std.specs.Prelude.{◌≡◌, [], ◌++◌, IfOk, IsOk, IsOkUnless, OnOk};
+ghost use Rattle.syntax.specs.Lines.{uncommented, blank, word_if, words_of, spaced, texts};
 
 use crate::fault::Fault;
 use std::alloc::Global;
@@ -22,13 +22,34 @@ fn is_blank(byte: u8) -> bool
     matches!(byte, b' ' | b'\t' | b'\r')
 }
 
+// Puts a piece of a line behind the words, unless it is empty.
+fn keep<'a>(words: &mut Vec<&'a [u8]>, piece: &'a [u8]) -> Result<(), Fault>
+    ensures kept { OnOk result (texts words.new.items ≡ texts words.old.items ++ word_if piece.now) }
+    ensures only { IsOkUnless result Fault.OutOfMemory }
+{
+    if !piece.is_empty() {
+        words.push(piece)?;
+    }
+    Ok(())
+}
+
 /// The words of a line, its comment left out.
+// A loop: the pieces of a `split`, filtered and collected, take twice as long where blanks stand in a row.
 pub fn words<'a>(heap: Global, line: &'a [u8]) -> Result<Vec<&'a [u8]>, Fault>
     ensures words { IfOk result (λ v. texts v.items ≡ words_of (uncommented line.now)) }
     ensures only { IsOkUnless result Fault.OutOfMemory }
 {
-    let pieces = before_comment(line).split(|byte| is_blank(*byte));
-    Ok(pieces.filter(|piece| !piece.is_empty()).collect(heap)?)
+    let said = before_comment(line);
+    let mut words = Vec::new(heap);
+    let mut start = 0;
+    for (i, byte) in said.iter().enumerate() {
+        if is_blank(*byte) {
+            keep(&mut words, &said[start..i])?;
+            start = i + 1;
+        }
+    }
+    keep(&mut words, &said[start..])?;
+    Ok(words)
 }
 
 /// Words joined by one blank; no words take no memory.

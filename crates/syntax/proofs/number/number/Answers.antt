@@ -11,13 +11,17 @@ returns-in_err-digit g c =
     let none = digit_none c.args.base g.T.Unsigned.greatest c.loop-byte.value c.loop-byte.byte-index c.args.word.now c.loop-byte-test.true (sym c.in_err-digit.ensures.ok_part ∙ c.digit_in.ensures) in
     let fault = missing c.digit_in.result NoNumber c.in_err-digit.field-0.0 c.in_err-digit.ensures.value in
     rw (p.1, p.2, fault)
-    (sym (number_is c.args.base g.T.Unsigned.greatest c.args.word.now some ∙ sym c.loop-byte.invariant ∙ none))
+    (sym (number_is c.args.base g.T.Unsigned.greatest c.args.word.now some ∙ sym c.loop-byte.invariant.said ∙ none))
 
 pub loop-byte-preserved : goal.loop-byte-preserved
 loop-byte-preserved g c =
     let low = g.met.T.Unsigned.laws.low in
-    digit_more c.args.base g.T.Unsigned.greatest (2 ^ 128 - 1) c.loop-byte.value c.in_ok-digit.digit c.saturating_add-value.result c.loop-byte.byte-index c.args.word.now c.requires (omega arith) c.loop-byte-test.true (sym c.in_ok-digit.ensures.ok_part ∙ c.digit_in.ensures) (cc)
-    ∙ c.loop-byte.invariant
+    record {
+      capped = omega arith;
+      said =
+          digit_more c.args.base g.T.Unsigned.greatest (2 ^ 64) c.loop-byte.value c.in_ok-digit.digit c.min-value.result c.loop-byte.byte-index c.args.word.now c.requires.low low c.loop-byte-test.true (sym c.in_ok-digit.ensures.ok_part ∙ c.digit_in.ensures) (cc)
+          ∙ c.loop-byte.invariant.said;
+    }
 
 pub returns : goal.returns
 returns g c =
@@ -26,4 +30,4 @@ returns g c =
     let e : MatchResult c.try_from.result (λ v. c.map_err.result ≡ Ok v) (λ _. c.map_err.result ≡ Err OutOfRange) =
     MatchResult-weaker c.try_from.result c.map_err.ensures.cases (λ x p. p) (λ y p. search rules) in
     turned g.T.Unsigned.greatest g.T.Unsigned.number c.loop-byte.value c.try_from.result c.map_err.result held e
-    ∙ sym (number_is c.args.base g.T.Unsigned.greatest c.args.word.now some ∙ sym c.loop-byte.invariant ∙ digits_all c.args.base g.T.Unsigned.greatest c.loop-byte.value c.loop-byte.byte-index c.args.word.now c.loop-byte-test.false)
+    ∙ sym (number_is c.args.base g.T.Unsigned.greatest c.args.word.now some ∙ sym c.loop-byte.invariant.said ∙ digits_all c.args.base g.T.Unsigned.greatest c.loop-byte.value c.loop-byte.byte-index c.args.word.now c.loop-byte-test.false)
