@@ -34,7 +34,6 @@ impl SmbusCarrier {
             up: true,
             destination: 0,
             count: 0,
-            // Not one packet copied 66 times, which takes hundreds of times as long.
             row: Default::default(),
         })
     }
